@@ -1,0 +1,6 @@
+pub mod Faults
+pub mod Leading
+pub mod Margins
+pub mod Splits
+pub mod Steps
+pub mod Strips

@@ -1,0 +1,48 @@
+ghost use mathlib.Core.Path.{_≡_};
+ghost use Rattle.std.specs.Of.Vec.{vec-items};
+ghost use Rattle.std.specs.Vec.{made};
+ghost use Rattle.text.specs.Lines.{faultOf, inside, linesOf, texts, Reads, Splits};
+use crate::bytes::ByteClass;
+use crate::bytes::Plain;
+use crate::bytes::PlainClass;
+use crate::runs::run_from;
+use std::alloc::AllocError;
+use std::alloc::Global;
+
+// A byte that ends no line.
+struct Inside;
+
+impl ByteClass for Inside as InsideClass {
+    ghost member = { inside };
+
+    fn has(b: u8) -> bool {
+        b != b'\n'
+    }
+}
+
+// The lines of `text`, in order, as parts of it.
+pub fn split_lines(heap: Global, text: &[u8]) -> Result<Vec<&[u8]>, AllocError>
+    ensures value { λ r. ⌜ made r (λ v. texts (vec-items v) ≡ linesOf (now (text .entry))) ⌝ }
+    ensures splits { λ r. ⌜ made r (λ v. Splits (now (text .entry)) (texts (vec-items v))) ⌝ }
+{
+    let mut lines = Vec::new(heap);
+    let mut from = 0;
+    while from < text.len() {
+        let end = from + run_from::<Inside>(text, from);
+        lines.push(&text[from..end])?;
+        from = end + 1;
+    }
+    Ok(lines)
+}
+
+// The longest line that is read.
+pub const LINE_LIMIT: usize = 1000;
+
+// Where a line cannot be read: at the first byte that no line may hold, or behind byte 999 of a longer line.
+pub fn fault(line: &[u8]) -> Option<usize>
+    ensures value { λ r. ⌜ r ≡ faultOf (now (line .entry)) ⌝ }
+    ensures reads { λ r. ⌜ Reads (now (line .entry)) r ⌝ }
+{
+    let good = run_from::<Plain>(line, 0).min(LINE_LIMIT);
+    if good < line.len() { Some(good) } else { None }
+}
