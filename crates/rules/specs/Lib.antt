@@ -1,3 +1,4 @@
 pub mod Meanings
 pub mod Forms
 pub mod Laws
+pub mod Worked

@@ -1,13 +1,13 @@
 -- What each rule makes of a line.
 use Prim.Native.Nat.{ℕ, _+_, _-_}
 use mathlib.Core.Bool.{Bool, true, cond, not, _&&_, _||_}
-use mathlib.Core.List.{List}
+use mathlib.Core.List.{List, [], map}
 use lib.Dec.{eqb, leb, ltb}
 use lib.ListN.{length, getD, take, drop}
 use Rattle.std.specs.declared.option.Option.{Option}
 use Rattle.std.specs.declared.option.Option.the-variants.{Some, None}
 use Rattle.std.specs.shelf.Lists.{leading}
-use Rattle.text.specs.Bytes.{blank, space, star, word}
+use Rattle.text.specs.Bytes.{blank, lowered, space, star, word}
 use Rattle.text.specs.Trims.{stripped}
 use Rattle.rules.specs.declared.meaning.Meaning.{Meaning}
 use Rattle.rules.specs.declared.meaning.Meaning.the-variants.{Opens, Continues, Stray}
@@ -35,6 +35,16 @@ always line = true
 -- a line opens, or else continues, or else is a stray
 abbrev pub meant : Bool → Place → Option ℕ → Bool → Meaning
 meant opens name text goes = cond opens (Opens name text) (cond goes Continues Stray)
+
+-- a name as it is looked up
+abbrev pub lookedUp : Bool → List ℕ → List ℕ
+lookedUp lowers name = cond lowers (map lowered name) name
+
+-- the name that a line opens
+abbrev pub named : Bool → List ℕ → Meaning → List ℕ
+named lowers line (Opens name text) = lookedUp lowers (take (name .len) (drop (name .at) line))
+named lowers line Continues = []
+named lowers line Stray = []
 
 -- a byte that a section's title may have
 abbrev pub titleByte : ℕ → Bool

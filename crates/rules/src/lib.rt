@@ -4,3 +4,4 @@ pub mod meaning;
 pub mod rule;
 pub mod section;
 mod marks;
+pub mod worked;

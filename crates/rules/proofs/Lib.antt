@@ -1,0 +1,4 @@
+pub mod Entries
+pub mod Exactness
+pub mod Parts
+pub mod Sections
