@@ -46,7 +46,12 @@ fn push_text(heap: Global, cell: &mut Vec<u8>, text: Option<usize>) -> Result<()
 }
 
 // `opens "name"`, and where the text starts.
-fn opening(heap: Global, name: &[u8], lowers: bool, text: Option<usize>) -> Result<Vec<u8>, AllocError>
+fn opening(
+    heap: Global,
+    name: &[u8],
+    lowers: bool,
+    text: Option<usize>,
+) -> Result<Vec<u8>, AllocError>
     ensures { λ r. ⌜ made r (λ v. vec-items v ≡ openingCell (lookedUp lowers (now (name .entry))) text) ⌝ }
 {
     let mut cell = Vec::new(heap);

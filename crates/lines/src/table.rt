@@ -5,15 +5,15 @@ ghost use Rattle.std.specs.Of.Vec.{vec-items};
 ghost use Rattle.std.specs.Vec.{made};
 ghost use Rattle.lines.specs.Rows.{barred, columnOf, padded, rowOf, tableOf};
 use crate::cell::cell;
-use rules::entry::RustEntry;
-use rules::entry::RustEntryRule;
-use rules::entry::StarlarkEntry;
-use rules::entry::StarlarkEntryRule;
 use rules::rule::LineRule;
-use rules::section::RustSection;
-use rules::section::RustSectionRule;
-use rules::section::StarlarkSection;
-use rules::section::StarlarkSectionRule;
+use rules::rust::RustEntry;
+use rules::rust::RustEntryRule;
+use rules::rust::RustSection;
+use rules::rust::RustSectionRule;
+use rules::starlark::StarlarkEntry;
+use rules::starlark::StarlarkEntryRule;
+use rules::starlark::StarlarkSection;
+use rules::starlark::StarlarkSectionRule;
 use std::alloc::AllocError;
 use std::alloc::Global;
 use text::escape::escape;
@@ -38,7 +38,12 @@ fn push_padded(row: &mut Vec<u8>, cell: &[u8], width: usize) -> Result<(), Alloc
 }
 
 // What a rule makes of a line, as wide as a column.
-fn push_column<R: LineRule>(heap: Global, row: &mut Vec<u8>, rule: &R, line: &[u8]) -> Result<(), AllocError>
+fn push_column<R: LineRule>(
+    heap: Global,
+    row: &mut Vec<u8>,
+    rule: &R,
+    line: &[u8],
+) -> Result<(), AllocError>
     ensures { λ r. ⌜ made r (λ _. vec-items (now (row .exit)) ≡ vec-items (now (row .entry)) ++ columnOf (R·LineRule .fixed .«names_lowered») (R·LineRule .meaning) (now (line .entry))) ⌝ }
 {
     push_padded(row, &cell(heap, rule, line)?, 20)?;
@@ -69,7 +74,8 @@ pub fn row(heap: Global, number: usize, line: &[u8]) -> Result<Vec<u8>, AllocErr
     Ok(row)
 }
 
-const HEAD: &[u8] = b"line  starlark-section    starlark-entry      rust-section        rust-entry          text\n";
+const HEAD: &[u8] =
+    b"line  starlark-section    starlark-entry      rust-section        rust-entry          text\n";
 
 // A row for each line of the text, numbered from 1.
 pub fn table(heap: Global, text: &[u8]) -> Result<Vec<u8>, AllocError>

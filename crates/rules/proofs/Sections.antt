@@ -1,13 +1,13 @@
 -- The section rules open exactly the lines of their forms.
 use Prim.Native.Nat.{ℕ, _+_, _-_, _<_, _≤_}
-use mathlib.Core.Bool.{Bool, true, false, not, _&&_}
+use mathlib.Core.Bool.{true, false, not, _&&_}
 use mathlib.Core.List.{List, [], _∷_, _++_, append-assoc}
 use mathlib.Core.Logic.{inl, inr, ⊎-elim}
 use mathlib.Core.Path.{_≡_, refl, sym, ap, subst, _∙_}
 use native.Mathlib.Nat.{add-zero}
 use native.Mathlib.Omega.{arith}
 use lib.Dec.{eqb, ltb}
-use lib.ListN.{length, getD, take, drop, length-append, length-drop}
+use lib.ListN.{length, getD, take, drop, length-append}
 use Rattle.std.specs.declared.option.Option.{Option}
 use Rattle.std.specs.declared.option.Option.the-variants.{None}
 use Rattle.std.specs.shelf.Lists.{All, leading}
@@ -16,13 +16,12 @@ use Rattle.std.proofs.shelf.Lists.{drop-drop, getD-append-left, getD-drop, getD
 use Rattle.std.proofs.shelf.Sums.{leading-le-length}
 use Rattle.std.proofs.shelf.Tests.{and-cases, and-from, and-parts, and-right, both-ways, cases-bool, eqb-false, eqb-true, lt-ltb, ltb-true, ne-eqb, not-from-false, not-true}
 use Rattle.text.specs.Bytes.{blank, space}
-use Rattle.text.specs.Trims.{stripped, Strips}
+use Rattle.text.specs.Trims.{stripped}
 use Rattle.text.proofs.Leading.{run-length, run-passes, run-stops}
 use Rattle.text.proofs.Strips.{strip-all, strips, strips-only}
 use Rattle.rules.specs.Forms.{RustHeading, StarlarkHeading, TitleOf}
 use Rattle.rules.specs.Laws.{Exact, Inside}
 use Rattle.rules.specs.Meanings.{always, blankFrom, headsRust, headsStarlark, resuming, rustRun, rustSection, rustTitle, standsAt, starlarkSection, titleByte, titleIn}
-use Rattle.rules.specs.declared.meaning.Meaning.the-variants.{Opens}
 use Rattle.rules.specs.declared.meaning.Place.{Place}
 use Rattle.rules.proofs.Exactness.{exact, inside, Complete, Fitting, Sound}
 use Rattle.rules.proofs.Parts.{blank-cut, blank-there, stands-cut, stands-there}
@@ -76,17 +75,18 @@ module _ (title rest : List ℕ) (some : 0 < length title) (bytes : All (λ b. t
       let long = length-append title (58 ∷ []) in
       rw title-run
       (and-from _ _ (lt-ltb 0 (length title) some)
-        (and-from _ _ (not-from-false _ (and-right _ _ (ap space here ∙ first)))
-          (and-from _ _ (stands-there 58 (length title) title rest refl)
-            (subst (λ l. blankFrom (length title + 1) l ≡ true) join (blank-there (length title + 1) (title ++ 58 ∷ []) rest long blanks)))))
+      (and-from _ _ (not-from-false _ (and-right _ _ (ap space here ∙ first)))
+      (and-from _ _ (stands-there 58 (length title) title rest refl)
+      (subst (λ l. blankFrom (length title + 1) l ≡ true) join (blank-there (length title + 1) (title ++ 58 ∷ []) rest long blanks)))))
 
 starlark-complete : Complete StarlarkHeading resuming headsStarlark starlarkTitle textless
 starlark-complete line n t f =
     let run = title-run (f .title) (f .rest) (f .title-some) (f .title-bytes) in
-    let heads = starlark-heads (f .title) (f .rest) (f .title-some) (f .title-bytes) (f .title-first) (f .rest-blank) in
-    (ap headsStarlark (f .line-is) ∙ heads,
-     ap starlarkTitle (f .line-is) ∙ ap (λ k. record { at = 0; len = k }) run ∙ sym (f .name-is),
-     sym (f .text-is))
+    let heads = starlark-heads (f .title) (f .rest) (f .title-some) (f .title-bytes) (f .title-first) (f .rest-blank) in (
+      ap headsStarlark (f .line-is) ∙ heads,
+      ap starlarkTitle (f .line-is) ∙ ap (λ k. record { at = 0; len = k }) run ∙ sym (f .name-is),
+      sym (f .text-is),
+    )
 
 starlark-fits : Fitting StarlarkHeading resuming headsStarlark starlarkTitle textless
 starlark-fits line n t f =
@@ -123,8 +123,8 @@ title-only run name t =
     ⊎-elim
     (λ all. rw (strip-all space run (all .0)) (sym (all .1)))
     (λ part.
-      let one = strips-only space run (part .0) (part .1) (part .2) in
-      rw (one .1, one .0, ne-eqb (length (part .0)) 0 (omega arith)) (sym (part .3)))
+    let one = strips-only space run (part .0) (part .1) (part .2) in
+    rw (one .1, one .0, ne-eqb (length (part .0)) 0 (omega arith)) (sym (part .3)))
     t
 
 rust-sound : Sound RustHeading always headsRust rustTitle textless
@@ -164,17 +164,18 @@ module _ (run rest : List ℕ) (some : 0 < length run) (bytes : All (λ b. title
   rust-heads blanks =
       rw run-there
       (and-from _ _ (stands-there 35 0 [] (32 ∷ (run ++ rest)) refl)
-        (and-from _ _ (stands-there 32 1 (35 ∷ []) (run ++ rest) refl)
-          (and-from _ _ (lt-ltb 0 (length run) some) (blank-there (2 + length run) (35 ∷ 32 ∷ run) rest (omega arith) blanks))))
+      (and-from _ _ (stands-there 32 1 (35 ∷ []) (run ++ rest) refl)
+      (and-from _ _ (lt-ltb 0 (length run) some) (blank-there (2 + length run) (35 ∷ 32 ∷ run) rest (omega arith) blanks))))
 
   title-there : rustTitle hashed ≡ titleIn run
   title-there = ap titleIn (take-at run rest (rustRun hashed) (sym run-there))
 
 rust-complete : Complete RustHeading always headsRust rustTitle textless
-rust-complete line n t f =
-    (ap headsRust (f .line-is) ∙ rust-heads (f .run) (f .rest) (f .run-some) (f .run-bytes) (f .run-longest) (f .rest-blank),
-     ap rustTitle (f .line-is) ∙ title-there (f .run) (f .rest) (f .run-some) (f .run-bytes) (f .run-longest) ∙ title-only (f .run) n (f .name-is),
-     sym (f .text-is))
+rust-complete line n t f = (
+  ap headsRust (f .line-is) ∙ rust-heads (f .run) (f .rest) (f .run-some) (f .run-bytes) (f .run-longest) (f .rest-blank),
+  ap rustTitle (f .line-is) ∙ title-there (f .run) (f .rest) (f .run-some) (f .run-bytes) (f .run-longest) ∙ title-only (f .run) n (f .name-is),
+  sym (f .text-is),
+)
 
 -- a title lies inside its run
 title-within : (run : List ℕ) (name : Place) → 0 < length run → TitleOf run name → (0 < name .len) × (name .at + name .len ≤ 2 + length run)
@@ -182,10 +183,10 @@ title-within run name some t =
     ⊎-elim
     (λ all. rw (all .1) (some, omega arith))
     (λ part.
-      let s = part .1 in
-      let long = ap length (s .whole) ∙ length-append (s .front) (part .0 ++ s .back) in
-      let rest = length-append (part .0) (s .back) in
-      rw (part .3) (part .2, omega arith))
+    let s = part .1 in
+    let long = ap length (s .whole) ∙ length-append (s .front) (part .0 ++ s .back) in
+    let rest = length-append (part .0) (s .back) in
+    rw (part .3) (part .2, omega arith))
     t
 
 rust-fits : Fitting RustHeading always headsRust rustTitle textless

@@ -5,7 +5,6 @@ use mathlib.Core.List.{List, [], _∷_, _++_}
 use mathlib.Core.Path.{_≡_}
 use lib.Chars.{codes}
 use Rattle.std.specs.declared.option.Option.the-variants.{Some, None}
-use Rattle.std.specs.shelf.Lists.{All}
 use Rattle.rules.specs.Meanings.{named, rustEntry, rustSection, starlarkEntry, starlarkSection}
 use Rattle.rules.specs.declared.meaning.Meaning.{Meaning}
 use Rattle.rules.specs.declared.meaning.Meaning.the-variants.{Opens, Continues, Stray}

@@ -1,7 +1,7 @@
 // What a line of a docstring is, by four rules behind one interface.
-pub mod entry;
+mod marks;
 pub mod meaning;
 pub mod rule;
-pub mod section;
-mod marks;
+pub mod rust;
+pub mod starlark;
 pub mod worked;

@@ -1,9 +1,15 @@
-ghost use Prim.Native.Nat.{_+_, _≤_};
+ghost use Prim.Native.Nat.{_≤_};
+ghost use mathlib.Core.Bool.{cond};
 ghost use mathlib.Core.Path.{_≡_};
-ghost use Rattle.rules.specs.Meanings.{blankFrom, resuming, standsAt, textFrom};
+ghost use lib.ListN.{length};
+ghost use Rattle.rules.specs.Meanings.{blankFrom, resuming, standsAt, textFrom, titleByte};
+ghost use Rattle.rules.specs.declared.meaning.Meaning.the-variants.{Continues, Stray};
+use crate::meaning::Meaning;
 use text::bytes::Blank;
 use text::bytes::BlankClass;
 use text::bytes::ByteClass;
+use text::bytes::Word;
+use text::bytes::WordClass;
 use text::runs::run_from;
 
 // Is byte `i` of the line a `b`?
@@ -20,9 +26,32 @@ pub fn is_blank_from(line: &[u8], from: usize) -> bool
     from <= line.len() && run_from::<Blank>(line, from) == line.len() - from
 }
 
-// Is the line empty, or does it begin with a blank?
-pub fn is_resuming(line: &[u8]) -> bool
-    ensures { λ r. ⌜ r ≡ resuming (now (line .entry)) ⌝ }
+// What a line is that opens nothing: one that is empty or begins with a blank continues.
+pub fn unopened(line: &[u8]) -> Meaning
+    ensures { λ r. ⌜ r ≡ cond (resuming (now (line .entry))) Continues Stray ⌝ }
 {
-    line.is_empty() || Blank::has(line[0])
+    if line.is_empty() || Blank::has(line[0]) {
+        Meaning::Continues
+    } else {
+        Meaning::Stray
+    }
+}
+
+// Behind the blanks that stand from `from` on.
+pub fn text_from(line: &[u8], from: usize) -> usize
+    requires { ⌜ from ≤ length (now line) ⌝ }
+    ensures { λ r. ⌜ r ≡ textFrom from (now (line .entry)) ⌝ }
+{
+    from + run_from::<Blank>(line, from)
+}
+
+// A byte that a section's title may have.
+pub struct TitleByte;
+
+pub impl ByteClass for TitleByte as TitleByteClass {
+    ghost member = { titleByte };
+
+    fn has(b: u8) -> bool {
+        Word::has(b) || b == b' ' || b == b'-'
+    }
 }

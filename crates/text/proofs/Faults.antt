@@ -3,9 +3,9 @@ use Prim.Native.Nat.{ℕ, min, _<_, _≤_}
 use mathlib.Core.Bool.{true, false}
 use mathlib.Core.List.{List}
 use mathlib.Core.Logic.{inl, inr, ⊎-elim}
-use mathlib.Core.Path.{_≡_, refl, sym, ap, subst}
+use mathlib.Core.Path.{_≡_, refl, sym, subst}
 use native.Mathlib.Omega.{arith}
-use lib.ListN.{length, getD, take}
+use lib.ListN.{length, getD}
 use Rattle.std.specs.declared.option.Option.the-variants.{Some, None}
 use Rattle.std.specs.shelf.Lists.{All, leading}
 use Rattle.std.proofs.shelf.Elements.{all-take}
@@ -31,9 +31,9 @@ module _ (line : List ℕ) (good : ℕ) (run : good ≡ min (leading plain line)
     more,
     subst (All (λ b. plain b ≡ true)) (take-take good (leading plain line) line (omega arith)) (all-take (λ b. plain b ≡ true) good _ (run-passes plain line)),
     ⊎-elim
-    (λ few. let here : leading plain line ≡ good = omega arith in inr (omega arith, subst (λ k. plain (getD line k 0) ≡ false) here (run-stops plain refl line)))
-    (λ many. inl (omega arith))
-    (cases-lt (leading plain line) 1000),
+        (λ few. let here : leading plain line ≡ good = omega arith in inr (omega arith, subst (λ k. plain (getD line k 0) ≡ false) here (run-stops plain refl line)))
+        (λ many. inl (omega arith))
+        (cases-lt (leading plain line) 1000),
   )
 
   -- a line with no such place has at most 1,000 bytes, all plain

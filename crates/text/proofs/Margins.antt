@@ -99,14 +99,14 @@ meet-keeps (Some margin) line run w b = begins-both margin line run w b
 meet-cuts : (o : Option (List ℕ)) (line run : List ℕ) →
     Begins (meeting o line) run → Within o run × Begins line run
 meet-cuts None line run b =
-    let front = take (indent line) line in
-    ( begins-all (λ b. blank b ≡ true) front run b (run-passes blank line)
-    , begins-through line front run (begins-take (indent line) line) b
+    let front = take (indent line) line in (
+      begins-all (λ b. blank b ≡ true) front run b (run-passes blank line),
+      begins-through line front run (begins-take (indent line) line) b,
     )
 meet-cuts (Some margin) line run b =
-    let front = take (common eqb margin line) margin in
-    ( begins-through margin front run (begins-take (common eqb margin line) margin) b
-    , begins-through line front run (begins-common margin line) b
+    let front = take (common eqb margin line) margin in (
+      begins-through margin front run (begins-take (common eqb margin line) margin) b,
+      begins-through line front run (begins-common margin line) b,
     )
 
 -- a run that may be the margin, and that the lines share, may be it behind the lines
@@ -114,25 +114,25 @@ folded-keeps : (o : Option (List ℕ)) (lines : List (List ℕ)) (run : List ℕ
     Within o run → Shared run lines → Within (folded narrowed o lines) run
 folded-keeps o [] run w shared = w
 folded-keeps o (l ∷ ls) run w shared =
-    elim (cases-bool (blankLine l))
-      [ inl t ↦ rw t (folded-keeps o ls run w (shared .1))
+    elim (cases-bool (blankLine l)) [
+      | inl t ↦ rw t (folded-keeps o ls run w (shared .1))
       | inr f ↦ rw f (folded-keeps (Some (meeting o l)) ls run (meet-keeps o l run w (shared .0 f)) (shared .1))
-      ]
+    ]
 
 -- a run that may be the margin behind the lines is such a run
 folded-cuts : (o : Option (List ℕ)) (lines : List (List ℕ)) (run : List ℕ) →
     Within (folded narrowed o lines) run → Within o run × Shared run lines
 folded-cuts o [] run w = (w, tt)
 folded-cuts o (l ∷ ls) run w =
-    elim (cases-bool (blankLine l))
-      [ inl t ↦
+    elim (cases-bool (blankLine l)) [
+      | inl t ↦
           let rest = folded-cuts o ls run (rw t at w) in
           (rest .0, (λ f. absurd (both-ways (blankLine l) f t), rest .1))
       | inr f ↦
           let rest = folded-cuts (Some (meeting o l)) ls run (rw f at w) in
           let here = meet-cuts o l run (rest .0) in
           (here .0, (λ g. here .1, rest .1))
-      ]
+    ]
 
 -- the margin found is one of the runs that may be it
 within-itself : (o : Option (List ℕ)) → Within o (valueOr o [])
@@ -206,15 +206,15 @@ module _ (before after : List (List ℕ)) (taken : Takes before after) where
     taken-more =
         let i = taken-indent in let n = ap length taken-off ∙ length-append (taken .run) (getD after k []) in
         ne-eqb (indent (getD after k [])) (length (getD after k []))
-          (λ e. eqb-false (indent (getD before k [])) (length (getD before k [])) more (cc))
+        (λ e. eqb-false (indent (getD before k [])) (length (getD before k [])) more (cc))
 
   -- a line comes out empty exactly when it is blanks only
   taken-empties : (k : ℕ) → k < length before → eqb (length (getD after k [])) 0 ≡ blankLine (getD before k [])
   taken-empties k there =
-      elim (cases-bool (blankLine (getD before k [])))
-        [ inl t ↦ rw (taken-at k there, t)
+      elim (cases-bool (blankLine (getD before k []))) [
+        | inl t ↦ rw (taken-at k there, t)
         | inr f ↦ more-some (getD after k []) (taken-more k there f) ∙ sym f
-        ]
+      ]
 
   -- one line stands as far to the right of another as it did
   taken-relative : (j k : ℕ) → j < length before → k < length before →
@@ -230,16 +230,16 @@ dedents-lines lines =
     let own = folded-cuts None lines (marginOf lines) (within-itself left) in
     let shares : (run : List ℕ) → Within left run → Shared run lines = λ run w. folded-cuts None lines run w .1 in
     let taken : Takes lines (dedentLines lines) =
-        record { run = marginOf lines; run-blank = own .0; run-shared = own .1; lines = refl } in
-    record
-    { margin = marginOf lines
-    ; margin-blank = own .0
-    ; margin-shared = own .1
-    ; margin-longest = λ run blanks shared.
-        within-longest left lines shares run (folded-keeps None lines run blanks shared)
-    ; lines = refl
-    ; empties = taken-empties lines (dedentLines lines) taken
-    ; relative = taken-relative lines (dedentLines lines) taken
+    record { run = marginOf lines; run-blank = own .0; run-shared = own .1; lines = refl } in
+    record {
+      margin = marginOf lines;
+      margin-blank = own .0;
+      margin-shared = own .1;
+      margin-longest = λ run blanks shared.
+          within-longest left lines shares run (folded-keeps None lines run blanks shared);
+      lines = refl;
+      empties = taken-empties lines (dedentLines lines) taken;
+      relative = taken-relative lines (dedentLines lines) taken;
     }
 
 -- a line without line feeds has none when some bytes are taken off
@@ -248,7 +248,7 @@ less-apart : (width : ℕ) (line : List ℕ) →
 less-apart width line apart =
     let Apart : List ℕ → Type 0 = All (λ b. inside b ≡ true) in
     cond-both (blankLine line) [] (drop width line) Apart (λ t. tt)
-      (λ f. all-drop (λ b. inside b ≡ true) width line apart)
+    (λ f. all-drop (λ b. inside b ≡ true) width line apart)
 
 -- the lines of a dedented text are its lines less their margin
 lines-dedented : (text : List ℕ) → linesOf (dedented text) ≡ dedentLines (linesOf text)
@@ -294,13 +294,13 @@ module _ (before after last : List (List ℕ)) (first : Dedents before after) (a
   dedents-twice =
       let once = takes before after first in let twice = takes after last again in
       let same : (k : ℕ) → k < length last → getD last k [] ≡ getD after k [] = λ k there.
-          let in-after : k < length after = omega (arith, taken-length after last twice) in
-          let in-before : k < length before = omega (arith, taken-length before after once) in
-          rw (taken-at after last twice k in-after)
-            (elim (cases-bool (blankLine (getD before k [])))
-              [ inl t ↦ rw (taken-at before after once k in-before, t)
-              | inr f ↦ rw (no-margin k in-before f, taken-more before after once k in-before f)
-              ]) in
+      let in-after : k < length after = omega (arith, taken-length after last twice) in
+      let in-before : k < length before = omega (arith, taken-length before after once) in
+      rw (taken-at after last twice k in-after)
+      (elim (cases-bool (blankLine (getD before k []))) [
+        | inl t ↦ rw (taken-at before after once k in-before, t)
+        | inr f ↦ rw (no-margin k in-before f, taken-more before after once k in-before f)
+      ]) in
       ext-getD [] last after (taken-length after last twice) same
 
 -- a text that is dedented stays as it is when it is dedented again

@@ -18,10 +18,10 @@ pub lines-cut : (text : List ℕ) → 0 < length text →
 lines-cut [] some = absurd (omega arith)
 lines-cut (b ∷ []) some = elim (cases-bool (inside b)) [ inl t ↦ rw t | inr f ↦ rw f ]
 lines-cut (b ∷ c ∷ cs) some =
-    elim (cases-bool (inside b))
-      [ inl t ↦ rw (t, lines-cut (c ∷ cs) (omega arith)) (simp (one-add, add-one))
+    elim (cases-bool (inside b)) [
+      | inl t ↦ rw (t, lines-cut (c ∷ cs) (omega arith)) (simp (one-add, add-one))
       | inr f ↦ rw f
-      ]
+    ]
 
 -- lines stay without line feeds when another byte is put before the first
 before-apart : (b : ℕ) (ls : List (List ℕ)) → inside b ≡ true →
@@ -33,10 +33,10 @@ before-apart b (l ∷ ls) t apart = ((t, apart .0), apart .1)
 pub lines-apart : (text : List ℕ) → All (λ l. All (λ b. inside b ≡ true) l) (linesOf text)
 lines-apart [] = tt
 lines-apart (b ∷ bs) =
-    elim (cases-bool (inside b))
-      [ inl t ↦ rw t (before-apart b (linesOf bs) t (lines-apart bs))
+    elim (cases-bool (inside b)) [
+      | inl t ↦ rw t (before-apart b (linesOf bs) t (lines-apart bs))
       | inr f ↦ rw f (tt, lines-apart bs)
-      ]
+    ]
 
 -- what no line may hold is a line feed
 feed : (b : ℕ) → inside b ≡ false → b ≡ 10

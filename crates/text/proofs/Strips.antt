@@ -52,11 +52,11 @@ module _ (p : ℕ → Bool) where
         let m : ℕ = length xs - ending p xs in
         let long = length-take-le m xs (omega arith) in
         kept xs (length (shortened p xs) - 1) (λ lt.
-          let few = ending-le-length p xs in
-          let back = getD-reverse xs (ending p xs) 0 (omega arith) in
-          let there : length xs - 1 - ending p xs ≡ length (shortened p xs) - 1 = omega arith in
-          let stops = run-stops p none (reverse xs) in
-          cc)
+        let few = ending-le-length p xs in
+        let back = getD-reverse xs (ending p xs) 0 (omega arith) in
+        let there : length xs - 1 - ending p xs ≡ length (shortened p xs) - 1 = omega arith in
+        let stops = run-stops p none (reverse xs) in
+        cc)
 
     -- what is stripped off passes, and what is left begins and ends with a byte that does not
     pub strips : (text : List ℕ) → Strips p text (stripped p text)
@@ -82,8 +82,8 @@ module _ (p : ℕ → Bool) where
   all-reverse : (xs : List ℕ) → All (λ b. p b ≡ true) xs → All (λ b. p b ≡ true) (reverse xs)
   all-reverse xs pass =
       all-from-getD (λ b. p b ≡ true) (reverse xs) 0 (λ i inside.
-        let long = length-reverse xs in
-        rw (getD-reverse xs i 0 (omega arith)) (all-getD (λ b. p b ≡ true) xs (length xs - 1 - i) 0 (omega arith) pass))
+      let long = length-reverse xs in
+      rw (getD-reverse xs i 0 (omega arith)) (all-getD (λ b. p b ≡ true) xs (length xs - 1 - i) 0 (omega arith) pass))
 
   -- there is one way to strip a text that has a byte left
   pub strips-only : (text rest : List ℕ) (s : Strips p text rest) → 0 < length rest → (leading p text ≡ length (s .front)) × (stripped p text ≡ rest)

@@ -4,4 +4,6 @@ pub mod dedent;
 pub mod escape;
 pub mod lines;
 pub mod runs;
+#[cfg(test)]
+mod tests;
 pub mod trim;

@@ -1,6 +1,6 @@
 ghost use Prim.Native.Nat.{_-_, _≤_};
 ghost use mathlib.Core.Path.{_≡_};
-ghost use lib.ListN.{length, take, drop};
+ghost use lib.ListN.{length, drop};
 ghost use Rattle.std.specs.shelf.Lists.{leading, ending};
 use crate::bytes::ByteClass;
 

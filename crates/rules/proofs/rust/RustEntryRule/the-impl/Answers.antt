@@ -1,5 +1,5 @@
 use Rattle.rules.proofs.Entries.{rust-entry-exact, rust-entry-inside}
-use Rattle.rules.proofs.entry.RustEntryRule.the-impl.Needs as need
+use Rattle.rules.proofs.rust.RustEntryRule.the-impl.Needs as need
 
 pub inside-law : need.inside-law
 inside-law = rust-entry-inside

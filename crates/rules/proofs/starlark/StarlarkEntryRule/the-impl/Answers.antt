@@ -1,5 +1,5 @@
 use Rattle.rules.proofs.Entries.{starlark-entry-exact, starlark-entry-inside}
-use Rattle.rules.proofs.entry.StarlarkEntryRule.the-impl.Needs as need
+use Rattle.rules.proofs.starlark.StarlarkEntryRule.the-impl.Needs as need
 
 pub inside-law : need.inside-law
 inside-law = starlark-entry-inside

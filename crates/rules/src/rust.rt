@@ -1,80 +1,82 @@
-ghost use Prim.Native.Nat.{_+_, _-_, _≤_, _<_};
+// The rules of Rust docstrings: `# Args` and * `name`: text.
+ghost use Prim.Native.Nat.{_+_, _≤_};
 ghost use mathlib.Core.Bool.{true, false};
 ghost use mathlib.Core.Path.{_≡_};
 ghost use lib.ListN.{length};
-ghost use Rattle.text.specs.Bytes.{star};
-ghost use Rattle.rules.specs.Forms.{RustItem, StarlarkItem};
-ghost use Rattle.rules.specs.Meanings.{entersRust, entersStarlark, nameEnd, resuming, rustEntry, rustMark, rustName, starlarkEntry, starlarkName, textFrom};
+ghost use Rattle.text.specs.Bytes.{space};
+ghost use Rattle.rules.specs.Forms.{RustHeading, RustItem};
+ghost use Rattle.rules.specs.Meanings.{always, entersRust, headsRust, nameEnd, resuming, rustEntry, rustName, rustRun, rustSection, titleIn};
 ghost use Rattle.rules.specs.declared.meaning.Place.{Place};
 ghost use Rattle.rules.specs.declared.meaning.Properties.{Properties};
-use crate::marks::is_resuming;
+use crate::marks::TitleByte;
+use crate::marks::TitleByteClass;
+use crate::marks::is_blank_from;
 use crate::marks::stands_at;
+use crate::marks::text_from;
+use crate::marks::unopened;
 use crate::meaning::Meaning;
 use crate::meaning::Place;
 use crate::meaning::Properties;
 use crate::rule::LineRule;
-use text::bytes::Blank;
-use text::bytes::BlankClass;
 use text::bytes::ByteClass;
 use text::bytes::Word;
 use text::bytes::WordClass;
 use text::runs::run_from;
+use text::trim::strip;
 
-struct Star;
+struct Space;
 
-impl ByteClass for Star as StarClass {
-    ghost member = { star };
+impl ByteClass for Space as SpaceClass {
+    ghost member = { space };
 
     fn has(b: u8) -> bool {
-        b == b'*'
+        b == b' '
     }
 }
 
-// Behind the blanks that stand from `from` on.
-fn text_from(line: &[u8], from: usize) -> usize
-    requires { ⌜ from ≤ length (now line) ⌝ }
-    ensures { λ r. ⌜ r ≡ textFrom from (now (line .entry)) ⌝ }
+// Is the line `# `, a title of `len` bytes, and then only blanks?
+fn heads_rust(line: &[u8], len: usize) -> bool
+    requires value { ⌜ len ≡ rustRun (now line) ⌝ }
+    requires within { ⌜ len ≤ length (now line) ⌝ }
+    ensures { λ r. ⌜ r ≡ headsRust (now (line .entry)) ⌝ }
 {
-    from + run_from::<Blank>(line, from)
+    stands_at(line, 0, b'#') && stands_at(line, 1, b' ') && 0 < len && is_blank_from(line, 2 + len)
 }
 
-// The word behind the stars.
-fn starlark_name(line: &[u8]) -> Place
-    ensures value { λ r. ⌜ r ≡ starlarkName (now (line .entry)) ⌝ }
-    ensures within { λ r. ⌜ nameEnd r ≤ length (now (line .entry)) ⌝ }
+// The title in a run that begins at byte 2 of its line.
+fn title_in(run: &[u8]) -> Place
+    ensures { λ r. ⌜ r ≡ titleIn (now (run .entry)) ⌝ }
 {
-    let at = run_from::<Star>(line, 0);
+    let len = strip::<Space>(run).len();
+    if len == 0 {
+        return Place {
+            at: 2,
+            len: run.len(),
+        };
+    }
     Place {
-        at,
-        len: run_from::<Word>(line, at),
+        at: 2 + run_from::<Space>(run, 0),
+        len,
     }
 }
 
-// Is the line at most two stars, the name and a colon?
-fn enters_starlark(line: &[u8], name: Place) -> bool
-    requires value { ⌜ name ≡ starlarkName (now line) ⌝ }
-    requires within { ⌜ nameEnd name ≤ length (now line) ⌝ }
-    ensures { λ r. ⌜ r ≡ entersStarlark (now (line .entry)) ⌝ }
-{
-    name.at <= 2 && 0 < name.len && stands_at(line, name.at + name.len, b':')
-}
-
-// `name: text`, with up to two stars before it.
+// `# Args`, and nothing behind it.
 #[derive(Drop)]
-pub struct StarlarkEntry;
+pub struct RustSection;
 
-pub impl LineRule for StarlarkEntry as StarlarkEntryRule {
+pub impl LineRule for RustSection as RustSectionRule {
+    // There are no strays: this says nothing.
     const STRAYS_END: bool = false;
 
-    const NAMES_LOWERED: bool = false;
+    const NAMES_LOWERED: bool = true;
 
-    ghost fixed = { record { «strays_end» = false; «names_lowered» = false } };
+    ghost fixed = { record { «strays_end» = false; «names_lowered» = true } };
 
-    ghost meaning = { starlarkEntry };
+    ghost meaning = { rustSection };
 
-    ghost form = { StarlarkItem };
+    ghost form = { RustHeading };
 
-    ghost resumes = { resuming };
+    ghost resumes = { always };
 
     fn properties() -> Properties {
         Properties {
@@ -84,16 +86,14 @@ pub impl LineRule for StarlarkEntry as StarlarkEntryRule {
     }
 
     fn ask(&self, line: &[u8]) -> Meaning {
-        let name = starlark_name(line);
-        if enters_starlark(line, name) {
+        let len = run_from::<TitleByte>(line, 2);
+        if heads_rust(line, len) {
             Meaning::Opens {
-                name,
-                text: Some(text_from(line, name.at + name.len + 1)),
+                name: title_in(&line[2..2 + len]),
+                text: None,
             }
-        } else if is_resuming(line) {
-            Meaning::Continues
         } else {
-            Meaning::Stray
+            Meaning::Continues
         }
     }
 }
@@ -103,7 +103,11 @@ fn rust_name(line: &[u8]) -> Place
     ensures value { λ r. ⌜ r ≡ rustName (now (line .entry)) ⌝ }
     ensures within { λ r. ⌜ nameEnd r ≤ length (now (line .entry)) + 3 ⌝ }
 {
-    let at = if stands_at(line, 0, b'*') && stands_at(line, 1, b' ') { 3 } else { 1 };
+    let at = if stands_at(line, 0, b'*') && stands_at(line, 1, b' ') {
+        3
+    } else {
+        1
+    };
     Place {
         at,
         len: run_from::<Word>(line, at),
@@ -152,10 +156,8 @@ pub impl LineRule for RustEntry as RustEntryRule {
                 name,
                 text: Some(text_from(line, end + colon)),
             }
-        } else if is_resuming(line) {
-            Meaning::Continues
         } else {
-            Meaning::Stray
+            unopened(line)
         }
     }
 }
