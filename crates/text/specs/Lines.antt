@@ -34,7 +34,7 @@ unlines ls = joined (λ l. l ++ 10 ∷ []) ls
 abbrev pub ended : List ℕ → List ℕ
 ended text = cond (inside (getD text (length text - 1) 10)) (text ++ 10 ∷ []) text
 
--- no line holds a line feed, and put together again the lines are the text: this leaves one list of lines
+-- no line holds a line feed, and put together again the lines are the text
 pub record Splits (text : List ℕ) (lines : List (List ℕ)) : Type 0 where
   pub apart : All (λ l. All (λ b. inside b ≡ true) l) lines
   pub whole : unlines lines ≡ ended text

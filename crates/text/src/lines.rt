@@ -1,3 +1,5 @@
+ghost use Prim.Native.Nat.{ℕ};
+ghost use mathlib.Core.List.{List};
 ghost use mathlib.Core.Path.{_≡_};
 ghost use Rattle.std.specs.Of.Vec.{vec-items};
 ghost use Rattle.std.specs.Vec.{made};
@@ -24,6 +26,7 @@ impl ByteClass for Inside as InsideClass {
 pub fn split_lines(heap: Global, text: &[u8]) -> Result<Vec<&[u8]>, AllocError>
     ensures value { λ r. ⌜ made r (λ v. texts (vec-items v) ≡ linesOf (now (text .entry))) ⌝ }
     ensures splits { λ r. ⌜ made r (λ v. Splits (now (text .entry)) (texts (vec-items v))) ⌝ }
+    ensures only { λ r. ⌜ made r (λ v. (lines : List (List ℕ)) → Splits (now (text .entry)) lines → lines ≡ texts (vec-items v)) ⌝ }
 {
     let mut lines = Vec::new(heap);
     let mut from = 0;

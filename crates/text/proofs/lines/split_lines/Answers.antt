@@ -1,7 +1,7 @@
 use mathlib.Core.Path.{sym, ap, subst, _∙_}
 use Rattle.std.proofs.shelf.Lists.{map-push}
 use Rattle.text.specs.Lines.{texts, Splits}
-use Rattle.text.proofs.Splits.{lines-split}
+use Rattle.text.proofs.Splits.{lines-only, lines-split}
 use Rattle.text.proofs.Steps.{lines-more, lines-all}
 use Rattle.text.proofs.lines.split_lines.Needs as need
 
@@ -13,4 +13,8 @@ loop-from-again c =
 pub returns : need.returns
 returns c =
     let all = lines-all _ _ (c .loop-from .from) (c .loop-from .inv) (c .loop-from-test .left) in
-    record { value = all; splits = subst (Splits _) (sym all) (lines-split _) }
+    record {
+      value = all;
+      splits = subst (Splits _) (sym all) (lines-split _);
+      only = λ lines s. lines-only _ lines s ∙ sym all;
+    }
