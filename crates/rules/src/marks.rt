@@ -1,7 +1,5 @@
-ghost use Prim.Native.Nat.{_≤_};
 ghost use mathlib.Core.Bool.{cond};
 ghost use mathlib.Core.Path.{_≡_};
-ghost use lib.ListN.{length};
 ghost use Rattle.rules.specs.Meanings.{blankFrom, resuming, standsAt, textFrom, titleByte};
 ghost use Rattle.rules.specs.declared.meaning.Meaning.the-variants.{Continues, Stray};
 use crate::meaning::Meaning;
@@ -39,7 +37,6 @@ pub fn unopened(line: &[u8]) -> Meaning
 
 // Behind the blanks that stand from `from` on.
 pub fn text_from(line: &[u8], from: usize) -> usize
-    requires { ⌜ from ≤ length (now line) ⌝ }
     ensures { λ r. ⌜ r ≡ textFrom from (now (line .entry)) ⌝ }
 {
     from + run_from::<Blank>(line, from)

@@ -1,13 +1,12 @@
-use Prim.Native.Nat.{max}
-use mathlib.Core.List.{_++_}
-use mathlib.Core.Path.{ap, _∙_}
-use lib.ListN.{replicate}
+use Prim.Native.Nat.{max, _-_}
+use mathlib.Core.Path.{refl}
+use lib.ListN.{length, replicate}
 use Rattle.std.specs.Of.Vec.{vec-items}
-use Rattle.lines.proofs.Joins.{joins}
+use Rattle.lines.proofs.Joins.{gap-is, joins}
 use Rattle.lines.proofs.table.push_padded.Needs as need
 
 pub returns : need.returns
 returns c =
-    let gap = c .max .ensures ∙ ap (λ n. max n 1) (c .saturating-sub .ensures) in
-    joins (vec-items (c .args .row .now)) (c .args .cell .now) (replicate (c .max .result) 32) (c .in-Continue-extend-from-slice .ensures tt .items) (c .in-Continue-push-spaces .ensures tt)
-    ∙ ap (λ n. vec-items (c .args .row .now) ++ (c .args .cell .now ++ replicate n 32)) gap
+    joins (vec-items (c .args .row .now)) (c .args .cell .now) (replicate (max (c .args .width - length (c .args .cell .now)) 1) 32)
+    (c .in-Continue-extend-from-slice .ensures tt .items) refl
+    (c .in-Continue-push-spaces .ensures tt) (gap-is _ (c .saturating-sub .ensures) (c .max .ensures))
