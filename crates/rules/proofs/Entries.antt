@@ -1,65 +1,27 @@
 -- The entry rules open exactly the lines of their forms.
 use Prim.Native.Nat.{ℕ, _+_, _-_, _<_}
-use mathlib.Core.Bool.{Bool, true, false, cond, _&&_}
+use mathlib.Core.Bool.{true, false, cond, _&&_}
 use mathlib.Core.List.{List, [], _∷_, _++_}
 use mathlib.Core.Logic.{_⊎_, inl, inr}
 use mathlib.Core.Path.{_≡_, refl, sym, ap, subst, _∙_}
 use native.Mathlib.Nat.{add-zero, zero-add}
 use native.Mathlib.Omega.{arith}
 use lib.Dec.{eqb, leb, ltb}
-use lib.ListN.{length, getD, take, drop, length-append}
+use lib.ListN.{length, getD, drop, length-append}
 use Rattle.std.specs.declared.option.Option.{Option}
 use Rattle.std.specs.declared.option.Option.the-variants.{Some}
 use Rattle.std.specs.shelf.Lists.{All, leading}
 use Rattle.std.proofs.shelf.Elements.{all-getD}
-use Rattle.std.proofs.shelf.Lists.{drop-all, drop-at, drop-drop, getD-append-left, getD-drop, length-take-le, take-append-drop}
-use Rattle.std.proofs.shelf.Sums.{leading-le-length}
-use Rattle.std.proofs.shelf.Tests.{and-from, and-parts, cases-bool, cases-lt, eq-eqb, eqb-false, le-leb, le-ltb, leb-true, lt-ltb, ltb-true, ne-eqb}
+use Rattle.std.proofs.shelf.Lists.{getD-append-left}
+use Rattle.std.proofs.shelf.Tests.{and-from, and-parts, cases-bool, eq-eqb, eqb-false, le-leb, leb-true, lt-ltb, ltb-true, ne-eqb}
 use Rattle.std.proofs.shelf.Ways.{tells}
 use Rattle.text.specs.Bytes.{blank, star, word}
-use Rattle.text.proofs.Leading.{run-length, run-passes, run-stops}
+use Rattle.text.proofs.Leading.{run-passes}
 use Rattle.rules.specs.Forms.{RustItem, StarlarkItem}
 use Rattle.rules.specs.Laws.{Exact, Inside}
 use Rattle.rules.specs.Meanings.{entersRust, entersStarlark, nameEnd, resuming, rustEntry, rustMark, rustName, standsAt, starlarkEntry, starlarkName, textFrom}
 use Rattle.rules.proofs.Exactness.{Complete, Fitting, Sound, exact, inside}
-use Rattle.rules.proofs.Parts.{stands-cut, stands-there}
-
--- what is left of a line, less a front, is what is left behind that front
-drop-behind : (i : ℕ) (line front back : List ℕ) → drop i line ≡ front ++ back → drop (i + length front) line ≡ back
-drop-behind i line front back e =
-    sym (drop-drop (length front) i line) ∙ ap (drop (length front)) e ∙ drop-at front back (length front) refl
-
--- a byte other than 0 stands at i exactly when what is left from there begins with it
-stands-read : (b i : ℕ) (line : List ℕ) → eqb 0 b ≡ false → standsAt b i line ≡ eqb (getD (drop i line) 0 0) b
-stands-read b i line other =
-    elim (cases-lt i (length line)) [
-      | inl within ↦ rw (lt-ltb, getD-drop, add-zero)
-      | inr past ↦ rw (le-ltb, drop-all) (sym other)
-    ]
-
--- the longest run of bytes that pass, from i on
-abbrev runAt : (ℕ → Bool) → ℕ → List ℕ → List ℕ
-runAt p i line = take (leading p (drop i line)) (drop i line)
-
-module _ (p : ℕ → Bool) (i : ℕ) (line : List ℕ) where
-  -- the run is as long as the rules count
-  run-counted : length (runAt p i line) ≡ leading p (drop i line)
-  run-counted = length-take-le (leading p (drop i line)) (drop i line) (leading-le-length p (drop i line))
-
-  -- the run can be cut off
-  run-cut : drop i line ≡ runAt p i line ++ drop (i + leading p (drop i line)) line
-  run-cut =
-      let n = leading p (drop i line) in
-      sym (take-append-drop n (drop i line)) ∙ ap (λ r. runAt p i line ++ r) (drop-drop n i line)
-
-  -- the byte behind the run does not pass
-  run-stopped : p 0 ≡ false → p (getD (drop (i + leading p (drop i line)) line) 0 0) ≡ false
-  run-stopped none = rw (getD-drop, add-zero, ← getD-drop) (run-stops p none (drop i line))
-
-  -- bytes that pass, before one that does not, are what the rules count
-  run-found : (run back : List ℕ) → All (λ b. p b ≡ true) run → p (getD back 0 0) ≡ false → drop i line ≡ run ++ back →
-      leading p (drop i line) ≡ length run
-  run-found run back pass stop e = ap (leading p) e ∙ run-length p run back pass stop
+use Rattle.rules.proofs.Parts.{drop-behind, run-counted, run-cut, run-found, run-stopped, runAt, stands-cut, stands-read, stands-there}
 
 module _ (mark i : ℕ) (line : List ℕ) where
   -- a word with a mark behind it can be cut off, and the mark too

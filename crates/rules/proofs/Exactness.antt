@@ -18,10 +18,12 @@ never-opens : (goes : Bool) (name : Place) (text : Option ℕ) → cond goes Con
 never-opens true name text e = let z : _≡_ {A = ℕ} 0 1 = cc in omega arith
 never-opens false name text e = let z : _≡_ {A = ℕ} 0 1 = cc in omega arith
 
+-- how a line looks that opens a name at a place, with or without a text
 abbrev Form : Type 1
 Form = List ℕ → Place → Option ℕ → Type 0
 
 module _ (form : Form) (resumes test : List ℕ → Bool) (name : List ℕ → Place) (text : List ℕ → Option ℕ) where
+  -- what the rule makes of a line
   abbrev meaning : List ℕ → Meaning
   meaning line = meant (test line) (name line) (text line) (resumes line)
 
@@ -38,6 +40,7 @@ module _ (form : Form) (resumes test : List ℕ → Bool) (name : List ℕ → P
   Fitting = (line : List ℕ) (n : Place) (t : Option ℕ) → form line n t → Inside line (Opens n t)
 
   module _ (sound : Sound) (complete : Complete) where
+    -- the meaning opens exactly the lines of the form
     pub exact : Exact form resumes meaning
     exact = record {
       opens = λ line n t e.
@@ -53,6 +56,7 @@ module _ (form : Form) (resumes test : List ℕ → Bool) (name : List ℕ → P
       others = λ line none. elim (cases-bool (test line)) [ inl passes ↦ absurd (none _ _ (sound line passes)) | inr fails ↦ rw fails ];
     }
 
+    -- what it opens lies inside the line
     pub inside : Fitting → (line : List ℕ) → Inside line (meaning line)
     inside fits line =
         elim (cases-bool (test line)) [

@@ -19,16 +19,20 @@ use Rattle.text.specs.Escapes.{escaped, escapeOf}
 use Rattle.text.specs.Lines.{inside, linesOf, texts, unlines}
 use Rattle.text.proofs.Splits.{lines-cut}
 
+-- a part of a text, as the code holds it
 abbrev Lent : Type 0
 Lent = RefT (List ℕ)
 
+-- what such a part holds, if there is one
 abbrev held : Option Lent → Option (List ℕ)
 held o = mapped (λ r. r .now) o
 
+-- the margin of the first i lines
 abbrev marginUpTo : List Lent → ℕ → Option (List ℕ)
 marginUpTo lines i = folded narrowed None (texts (take i lines))
 
 module _ (lines : List Lent) (i : ℕ) (d : Lent) (more : i < length lines) where
+  -- the margin of one line more
   margin-more : marginUpTo lines (i + 1) ≡ narrowed (marginUpTo lines i) (getD lines i d .now)
   margin-more =
       let now : Lent → List ℕ = λ r. r .now in
