@@ -1,5 +1,5 @@
 -- What a dedent takes off.
-use Prim.Native.Nat.{ℕ, zero, suc, _+_, _≤_, _<_}
+use Prim.Native.Nat.{ℕ, zero, suc, _+_, _-_, _≤_, _<_}
 use mathlib.Core.Bool.{Bool, true, false}
 use mathlib.Core.List.{List, [], _∷_, _++_, append-assoc, map}
 use mathlib.Core.Logic.{inl, inr}
@@ -15,14 +15,14 @@ use Rattle.std.specs.declared.option.Option.the-variants.{Some, None}
 use Rattle.std.specs.shelf.Lists.{All, common, folded, leading}
 use Rattle.std.proofs.shelf.Elements.{all-append, all-drop, all-from-getD, all-getD, all-map, all-weaker}
 use Rattle.std.proofs.shelf.Fronts.{front-fits, front-rest}
-use Rattle.std.proofs.shelf.Lists.{append-nil, ext-getD, getD-map, length-append, length-map, length-replicate, take-append-drop}
+use Rattle.std.proofs.shelf.Lists.{append-nil, ext-getD, getD-map, length-append, length-drop, length-map, length-replicate, take-append-drop}
 use Rattle.std.proofs.shelf.Sums.{leading-le-length}
 use Rattle.std.proofs.shelf.Tests.{both-ways, cases-bool, cond-both, eq-eqb, eqb-true, eqb-false, ne-eqb}
 use Rattle.text.specs.Bytes.{blank}
 use Rattle.text.specs.Dedents.{blankLine, indent, less, meeting, narrowed, marginOf, dedentLines, dedented, Shared, Dedents}
 use Rattle.text.specs.Lines.{inside, linesOf, unlines}
 use Rattle.text.proofs.Leading.{run-passes}
-use Rattle.text.proofs.Splits.{lines-apart, lines-unlines}
+use Rattle.text.proofs.Splits.{lines-apart, lines-split, lines-unlines}
 
 -- the text has the run as a front
 abbrev Begins : List ℕ → List ℕ → Type 0
@@ -249,6 +249,26 @@ less-apart width line apart =
     let Apart : List ℕ → Type 0 = All (λ b. inside b ≡ true) in
     cond-both (blankLine line) [] (drop width line) Apart (λ t. tt)
     (λ f. all-drop (λ b. inside b ≡ true) width line apart)
+
+-- lines that lose bytes come to no more
+unlines-fit : (width : ℕ) (lines : List (List ℕ)) → length (unlines (map (less width) lines)) ≤ length (unlines lines)
+unlines-fit width [] = omega arith
+unlines-fit width (l ∷ ls) =
+    let short = cond-both (blankLine l) [] (drop width l) (λ bs. length bs ≤ length l) (λ t. omega arith)
+    (λ f. simp length-drop (omega arith)) in
+    let rest = unlines-fit width ls in
+    simp length-append (omega arith)
+
+-- a text whose lines lose bytes grows by a line feed at most
+pub outdented-fits : (width : ℕ) (text : List ℕ) → length (unlines (map (less width) (linesOf text))) ≤ length text + 1
+outdented-fits width text =
+    let ends = cond-both (inside (getD text (length text - 1) 10)) (text ++ 10 ∷ []) text (λ bs. length bs ≤ length text + 1)
+    (λ t. simp length-append (omega arith)) (λ f. omega arith) in
+    omega (arith, unlines-fit width (linesOf text), ap length (lines-split text .whole))
+
+-- so does a dedented text
+pub dedented-fits : (text : List ℕ) → length (dedented text) ≤ length text + 1
+dedented-fits text = outdented-fits (length (marginOf (linesOf text))) text
 
 -- the lines of a dedented text are its lines less their margin
 lines-dedented : (text : List ℕ) → linesOf (dedented text) ≡ dedentLines (linesOf text)

@@ -1,5 +1,5 @@
 -- What the lines of a text are.
-use Prim.Native.Nat.{ℕ, _+_, _<_}
+use Prim.Native.Nat.{ℕ, min, _+_, _-_, _<_}
 use mathlib.Core.Bool.{true, false}
 use mathlib.Core.List.{List, [], _∷_, _++_, append-assoc}
 use mathlib.Core.Logic.{inl, inr}
@@ -7,10 +7,14 @@ use mathlib.Core.Path.{_≡_, refl, sym, ap, _∙_}
 use native.Mathlib.Numerals.{add-one, one-add, sub-one}
 use native.Mathlib.Omega.{arith}
 use lib.Dec.{eqb}
-use lib.ListN.{length, getD, take, drop}
+use lib.ListN.{length, getD, take, drop, length-take, length-drop}
+use Rattle.std.specs.declared.option.Option.the-variants.{Some}
 use Rattle.std.specs.shelf.Lists.{All, leading}
+use Rattle.std.proofs.shelf.Lists.{take-rest}
+use Rattle.std.proofs.shelf.Sums.{leading-le-length}
 use Rattle.std.proofs.shelf.Tests.{cases-bool, eqb-true, not-false}
-use Rattle.text.specs.Lines.{inside, before, linesOf, unlines, ended, Splits}
+use Rattle.text.proofs.Ends.{drop-min}
+use Rattle.text.specs.Lines.{inside, before, linesOf, unlines, ended, Cuts, Splits}
 
 -- the first line is what stands before the first line feed
 pub lines-cut : (text : List ℕ) → 0 < length text →
@@ -22,6 +26,18 @@ lines-cut (b ∷ c ∷ cs) some =
       | inl t ↦ rw (t, lines-cut (c ∷ cs) (omega arith)) (simp (one-add, add-one))
       | inr f ↦ rw f
     ]
+
+-- the first line and the rest behind its line feed, which may be wanting at the end of the text
+pub line-cut : (text : List ℕ) (end next : ℕ) → 0 < length text →
+    end ≡ leading inside text → next ≡ min (end + 1) (length text) →
+    Cuts text (Some (take (end - 0) text, take (length text - next) (drop next text)))
+line-cut text end next some run e =
+    let cut = lines-cut text some in
+    let all : end - 0 ≡ end = omega arith in
+    let rest = take-rest text next in
+    let wide : length (take end text) ≡ end = omega (arith, length-take end text, leading-le-length inside text) in
+    let behind = drop-min text (end + 1) next e in
+    (cc, cc, simp length-take (simp length-drop (omega arith)))
 
 -- lines stay without line feeds when another byte is put before the first
 before-apart : (b : ℕ) (ls : List (List ℕ)) → inside b ≡ true →

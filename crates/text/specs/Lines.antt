@@ -1,12 +1,12 @@
 -- The lines of a text. What a line end is stands in this file alone.
-use Prim.Native.Nat.{ℕ, min, _-_, _<_, _≤_}
+use Prim.Native.Nat.{ℕ, min, _+_, _-_, _<_, _≤_}
 use mathlib.Core.Bool.{Bool, true, false, cond, not}
 use mathlib.Core.List.{List, [], _∷_, _++_, map}
 use mathlib.Core.Logic.{_⊎_}
 use mathlib.Core.Path.{_≡_}
 use denote.Ref.{RefT}
 use lib.Dec.{eqb, ltb}
-use lib.ListN.{length, getD, take}
+use lib.ListN.{length, getD, take, drop}
 use Rattle.std.specs.declared.option.Option.{Option}
 use Rattle.std.specs.declared.option.Option.the-variants.{Some, None}
 use Rattle.std.specs.shelf.Lists.{All, joined, leading}
@@ -38,6 +38,12 @@ ended text = cond (inside (getD text (length text - 1) 10)) (text ++ 10 ∷ []) 
 pub record Splits (text : List ℕ) (lines : List (List ℕ)) : Type 0 where
   pub apart : All (λ l. All (λ b. inside b ≡ true) l) lines
   pub whole : unlines lines ≡ ended text
+
+-- the first line, and what stands behind its line feed: the text of the other lines; nothing where the text is empty
+abbrev pub Cuts : List ℕ → Option (List ℕ × List ℕ) → Type 0
+Cuts text None = text ≡ []
+Cuts text (Some (line, rest)) =
+    (linesOf text ≡ line ∷ linesOf rest) × (rest ≡ drop (length line + 1) text) × (length rest < length text)
 
 -- what the parts of a text hold
 abbrev pub texts : List (RefT (List ℕ)) → List (List ℕ)

@@ -2,8 +2,9 @@ ghost use Prim.Native.Nat.{ℕ};
 ghost use mathlib.Core.List.{List};
 ghost use mathlib.Core.Path.{_≡_};
 ghost use Rattle.std.specs.Of.Vec.{vec-items};
+ghost use Rattle.std.specs.Options.{mapped};
 ghost use Rattle.std.specs.Vec.{made};
-ghost use Rattle.text.specs.Lines.{faultOf, inside, linesOf, texts, Reads, Splits};
+ghost use Rattle.text.specs.Lines.{faultOf, inside, linesOf, texts, Cuts, Reads, Splits};
 use crate::bytes::ByteClass;
 use crate::bytes::Plain;
 use crate::bytes::PlainClass;
@@ -22,6 +23,17 @@ impl ByteClass for Inside as InsideClass {
     }
 }
 
+// The first line of `text` and what stands behind its line feed; nothing where `text` is empty.
+pub fn split_line(text: &[u8]) -> Option<(&[u8], &[u8])>
+    ensures { λ r. ⌜ Cuts (now (text .entry)) (mapped (λ p. (now (p .0), now (p .1))) r) ⌝ }
+{
+    if text.is_empty() {
+        return None;
+    }
+    let end = run_from::<Inside>(text, 0);
+    Some((&text[0..end], &text[(end + 1).min(text.len())..]))
+}
+
 // The lines of `text`, in order, as parts of it.
 pub fn split_lines(heap: Global, text: &[u8]) -> Result<Vec<&[u8]>, AllocError>
     ensures value { λ r. ⌜ made r (λ v. texts (vec-items v) ≡ linesOf (now (text .entry))) ⌝ }
@@ -29,11 +41,10 @@ pub fn split_lines(heap: Global, text: &[u8]) -> Result<Vec<&[u8]>, AllocError>
     ensures only { λ r. ⌜ made r (λ v. (lines : List (List ℕ)) → Splits (now (text .entry)) lines → lines ≡ texts (vec-items v)) ⌝ }
 {
     let mut lines = Vec::new(heap);
-    let mut from = 0;
-    while from < text.len() {
-        let end = from + run_from::<Inside>(text, from);
-        lines.push(&text[from..end])?;
-        from = end + 1;
+    let mut rest = text;
+    while let Some((line, behind)) = split_line(rest) {
+        lines.push(line)?;
+        rest = behind;
     }
     Ok(lines)
 }

@@ -1,5 +1,6 @@
 use crate::bytes::lower;
 use crate::dedent::dedent;
+use crate::dedent::dedent_into;
 use crate::escape::escape;
 use crate::lines::fault;
 use crate::lines::split_lines;
@@ -20,6 +21,16 @@ fn texts_are_dedented(rt: LibcRuntime) -> Result<(), Fail> {
         check(dedent(rt.alloc(), text)?.as_slice() == out)?;
     }
     Ok(())
+}
+
+#[test]
+fn texts_are_dedented_where_there_is_room(_rt: LibcRuntime) -> Result<(), Fail> {
+    let mut out = [b'#'; 8];
+    if let Some(len) = dedent_into(b"  a\n b", &mut out) {
+        check(&out[0..len] == b" a\nb\n")?;
+    }
+    check_eq(dedent_into(b" abcdefg", &mut out), None)?;
+    check(&out == b" a\nb\n###")
 }
 
 #[test]

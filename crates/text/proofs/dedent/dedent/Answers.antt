@@ -1,25 +1,18 @@
-use mathlib.Core.List.{[]}
 use mathlib.Core.Path.{sym, ap, subst, _∙_}
-use lib.ListN.{length}
-use Rattle.text.specs.Dedents.{dedented, less, marginOf, Dedents}
-use Rattle.text.specs.Lines.{linesOf, texts}
+use lib.ListN.{length, drop}
+use Rattle.std.specs.Of.Vec.{vec-items}
+use Rattle.text.specs.Dedents.{dedented, Dedents}
+use Rattle.text.specs.Lines.{linesOf}
 use Rattle.text.proofs.Margins.{dedents, dedent-twice}
-use Rattle.text.proofs.Steps.{dedent-all, unlines-more}
+use Rattle.text.proofs.Writes.{dedented-kept}
 use Rattle.text.proofs.dedent.dedent.Needs as need
-
-pub loop-line-again : need.loop-line-again
-loop-line-again c =
-    let more = unlines-more (less (c .margin-width-width .result)) (c .deref-line-items .result .now) (c .loop-line .line-index) (record { ptr = (0, 0); name = 0; now = [] }) (c .loop-line-test .taken) in
-    let text = c .in-Continue-extend-from-slice .ensures tt .items in
-    let feed = c .in-Continue-push .ensures tt .items in
-    cc
 
 pub returns : need.returns
 returns c =
-    let width = c .margin-width-width .ensures ∙ ap (λ ls. length (marginOf (texts ls))) (c .deref .ensures .value) in
-    let is = dedent-all (c .args .text .now) _ _ (c .deref-line-items .result .now) _ (c .loop-line .line-index) (c .in-Continue-lines .ensures tt .value) (c .deref-line-items .ensures .value) width (c .loop-line-test .left) (c .loop-line .inv) in
+    let text = c .args .text .now in
+    let is = dedented-kept text (c .deref-mut .result .now) (c .dedent-into .last .out) (drop (length (c .dedent-into .last .out)) (c .in-Continue-out .out .items)) (vec-items (c .truncate .last .self)) (c .in-Continue-out .out .len) (c .unwrap-len .result) (c .dedent-into .result) (c .in-Continue-out .ensures tt .made .1) (c .deref-mut .ensures .len) (c .dedent-into .ensures .value) (c .unwrap-len .ensures) (c .dedent-into .ensures .written) (c .truncate .ensures .items) in
     record {
       value = is;
-      lines = subst (λ out. Dedents (linesOf (c .args .text .now)) (linesOf out)) (sym is) (dedents (c .args .text .now));
-      settles = ap dedented is ∙ dedent-twice (c .args .text .now) ∙ sym is;
+      lines = subst (λ out. Dedents (linesOf text) (linesOf out)) (sym is) (dedents text);
+      settles = ap dedented is ∙ dedent-twice text ∙ sym is;
     }
