@@ -1,0 +1,2 @@
+mod Lowering
+pub mod Naming
