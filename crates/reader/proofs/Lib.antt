@@ -1,0 +1,12 @@
+pub mod Boundaries
+pub mod Following
+pub mod Giving
+pub mod Histories
+pub mod Losses
+pub mod Moving
+pub mod Running
+pub mod Shares
+pub mod Standing
+pub mod Starting
+pub mod Stepping
+pub mod Stores

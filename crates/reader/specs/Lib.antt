@@ -1,0 +1,10 @@
+pub mod Answers
+pub mod Calls
+pub mod Laws
+pub mod Runs
+pub mod Setups
+pub mod Shelves
+pub mod Starts
+pub mod Steps
+pub mod Stretches
+pub mod Worked
