@@ -1,0 +1,5 @@
+pub mod Plays
+pub mod Sayings
+pub mod Scripts
+pub mod Shown
+pub mod Words
