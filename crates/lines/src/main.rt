@@ -1,4 +1,6 @@
 // Says of each line of a text what the four line rules make of it.
+#![tactic(auto)]
+
 mod cell;
 mod table;
 

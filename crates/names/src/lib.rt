@@ -1,4 +1,6 @@
 // The names that a reader is asked for: which can be asked for together, and where one stands among them.
+#![tactic(auto)]
+
 ghost use Rattle.std.specs.Prelude.{◌≡◌, ◌<◌, map, length, IfSome};
 ghost use Rattle.std.specs.Str.{bytes_eq};
 ghost use Rattle.text.specs.Bytes.{lowered as small};

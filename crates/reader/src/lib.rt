@@ -1,4 +1,6 @@
 // Reads the lines of a docstring and keeps, for each asked name, the text that belongs to it.
+#![tactic(auto)]
+
 pub mod answer;
 pub mod calls;
 mod hand_out;

@@ -1,7 +1,7 @@
 -- The number and the place of each refusal, and how it is written.
 use Rattle.std.specs.Prelude.{ℕ, List, ◌++◌, codes, decimal}
 use Rattle.refusal.specs.declared.Refusal.{Refusal}
-use Rattle.refusal.specs.declared.Refusal.TheVariants.{BadNames, BadShare, AlreadyClosed, ShortShelf, BadLine, FullShare, StillReading, NoText, TornText, ShortTarget, NoRoom, TooWide}
+use Rattle.refusal.specs.declared.Refusal.TheVariants.{BadNames, BadShare, AlreadyClosed, ShortShelf, BadLine, FullShare, StillReading, NoText, TornText, ShortTarget}
 
 abbrev pub number : Refusal → ℕ
 number (BadNames i) = 1
@@ -14,8 +14,6 @@ number StillReading = 7
 number NoText = 8
 number TornText = 9
 number ShortTarget = 10
-number NoRoom = 19
-number TooWide = 20
 
 -- where the fault is; 0 where there is nothing to point at
 abbrev pub place : Refusal → ℕ
@@ -29,8 +27,6 @@ place StillReading = 0
 place NoText = 0
 place TornText = 0
 place ShortTarget = 0
-place NoRoom = 0
-place TooWide = 0
 
 -- `refused N at P`
 abbrev pub shown : Refusal → List ℕ

@@ -1,4 +1,6 @@
 // The ways in which a call is turned down, by number and place.
+#![tactic(auto)]
+
 ghost use Rattle.std.specs.Prelude.{◌≡◌, IfOk};
 ghost use Rattle.refusal.specs.Numbers.{number, place, shown};
 
@@ -26,10 +28,6 @@ pub enum Refusal {
     TornText,
     // The target has no room for the text.
     ShortTarget,
-    // The line costs more than the room that is left.
-    NoRoom,
-    // The line is wider than the sink takes lines.
-    TooWide,
 }
 
 impl Refusal {
@@ -47,8 +45,6 @@ impl Refusal {
             Refusal::NoText => 8,
             Refusal::TornText => 9,
             Refusal::ShortTarget => 10,
-            Refusal::NoRoom => 19,
-            Refusal::TooWide => 20,
         }
     }
 

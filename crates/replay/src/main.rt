@@ -1,4 +1,6 @@
 // Makes the calls of a script on a reader, and says what each is answered.
+#![tactic(auto)]
+
 mod replay;
 mod script;
 mod show;

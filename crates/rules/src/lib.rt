@@ -1,4 +1,6 @@
 // What a line of a docstring is, by four rules behind one interface.
+#![tactic(auto)]
+
 mod marks;
 pub mod meaning;
 pub mod rule;

@@ -1,4 +1,6 @@
 // Bytes of a docstring: their kinds, and the ways in which every layer above cuts a text.
+#![tactic(auto)]
+
 pub mod bytes;
 pub mod dedent;
 pub mod escape;
