@@ -5,7 +5,7 @@ use crate::bytes::ByteClass;
 
 // How many bytes of the class stand in `text` from `from` on, before any other.
 pub fn run_from<C: ByteClass>(text: &[u8], from: usize) -> usize
-    ensures count { result ≡ prefix_len member (drop from text.now) }
+    ensures count { result ≡ prefix_len C.member (drop from text.now) }
     ensures within { result ≤ length text.now - from }
 {
     let mut i = from;
@@ -17,7 +17,7 @@ pub fn run_from<C: ByteClass>(text: &[u8], from: usize) -> usize
 
 // How many bytes of the class `text` ends with.
 pub fn run_back<C: ByteClass>(text: &[u8]) -> usize
-    ensures count { result ≡ suffix_len member text.now }
+    ensures count { result ≡ suffix_len C.member text.now }
     ensures within { result ≤ length text.now }
 {
     let mut n = text.len();

@@ -7,7 +7,7 @@ use crate::runs::{run_back, run_from};
 
 // `text` less the bytes of the class at both ends.
 pub fn strip<C: ByteClass>(text: &[u8]) -> &[u8]
-    ensures { result.now ≡ stripped member text.now }
+    ensures { result.now ≡ stripped C.member text.now }
 {
     let rest = &text[run_from::<C>(text, 0)..];
     &rest[0..rest.len() - run_back::<C>(rest)]

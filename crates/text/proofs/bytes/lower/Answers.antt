@@ -6,7 +6,7 @@ use Rattle.text.proofs.bytes.lower.Goals as goal
 pub loop-b-preserved : goal.loop-b-preserved
 loop-b-preserved c =
     let more = map_more lowered c.args.name.now c.loop-b.b-index 0 c.loop-b-test.true in
-    let one = c.in-ok-push.ensures.items in
+    let one = c.in_ok-push.ensures.items in
     cc
 
 pub returns : goal.returns

@@ -8,7 +8,7 @@ use Rattle.text.proofs.dedent.dedent.Goals as goal
 pub returns : goal.returns
 returns c =
     let text = c.args.text.now in
-    let is = dedented_kept text c.deref-mut.result.now c.dedent-into.new.out (drop (length c.dedent-into.new.out) c.in-ok-out.out.items) (vec_items c.truncate.new.self) c.in-ok-out.out.len c.unwrap-len.result c.dedent-into.result c.in-ok-out.ensures.len c.deref-mut.ensures.len c.dedent-into.ensures.value c.unwrap-len.ensures c.dedent-into.ensures.written c.truncate.ensures.items in
+    let is = dedented_kept text c.deref_mut.result.now c.dedent_into.new.out (drop (length c.dedent_into.new.out) c.in_ok-out.out.items) (vec_items c.truncate.new.self) c.in_ok-out.out.len c.unwrap-len.result c.dedent_into.result c.in_ok-out.ensures.len c.deref_mut.ensures.len c.dedent_into.ensures.value c.unwrap-len.ensures c.dedent_into.ensures.written c.truncate.ensures.items in
     record {
       value = is;
       lines = subst (λ out. Dedents (lines_of text) (lines_of out)) (sym is) (dedents text);

@@ -12,14 +12,14 @@ returns-then-text-out c =
       fits = tt;
     }
 
-pub outdent-into-requires : goal.outdent-into-requires
-outdent-into-requires c = omega (arith, outdented_fits c.margin-width.result c.args.text.now)
+pub outdent_into-requires : goal.outdent_into-requires
+outdent_into-requires c = omega (arith, outdented_fits c.margin_width.result c.args.text.now)
 
 pub returns : goal.returns
 returns c =
-    let is = dedented_written c.args.text.now c.args.out.now _ _ _ c.margin-width.ensures c.outdent-into.ensures.value c.outdent-into.ensures.written in
+    let is = dedented_written c.args.text.now c.args.out.now _ _ _ c.margin_width.ensures c.outdent_into.ensures.value c.outdent_into.ensures.written in
     record {
       value = ap Some is.0 ∙ cond_below _ _ _ _ c.if-text-out.false;
       written = is.1 ∙ cond_below _ _ _ _ c.if-text-out.false;
-      fits = omega (arith, outdented_fits c.margin-width.result c.args.text.now, c.outdent-into.auto.out);
+      fits = omega (arith, outdented_fits c.margin_width.result c.args.text.now, c.outdent_into.auto.out);
     }

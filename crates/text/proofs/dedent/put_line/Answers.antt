@@ -6,5 +6,5 @@ pub returns : goal.returns
 returns c =
     record {
       value = refl;
-      written = line_put c.args.out.now c.args.line.now _ c.args.at c.copy-from-slice.ensures.after c.requires;
+      written = line_put c.args.out.now c.args.line.now _ c.args.at c.copy_from_slice.ensures.after c.requires;
     }

@@ -4,10 +4,10 @@ use Rattle.text.proofs.lines.fault.Goals as goal
 
 pub returns-then-good-line : goal.returns-then-good-line
 returns-then-good-line c =
-    let run = c.min-good.ensures ∙ ap (λ n. min n 1000) c.run-from.ensures.count in
+    let run = c.min-good.ensures ∙ ap (λ n. min n 1000) c.run_from.ensures.count in
     record { value = fault_there _ _ run c.if-good-line.true; reads = reads_to _ _ run c.if-good-line.true }
 
 pub returns-else-good-line : goal.returns-else-good-line
 returns-else-good-line c =
-    let run = c.min-good.ensures ∙ ap (λ n. min n 1000) c.run-from.ensures.count in
+    let run = c.min-good.ensures ∙ ap (λ n. min n 1000) c.run_from.ensures.count in
     record { value = fault_nowhere _ _ run c.if-good-line.false; reads = reads_all _ _ run c.if-good-line.false }
