@@ -7,5 +7,5 @@ pub returns : goal.returns
 returns c =
     let was = vec_items c.args.row.now in
     let shown = escaped c.args.line.now in
-    let line = joins was (124 ∷ []) shown c.in-ok-push.ensures.items refl c.in-ok-extend-from-slice.ensures.items (c.deref.ensures.value ∙ c.in-ok-escape.ensures) in
-    joins was (124 ∷ shown) (124 ∷ 10 ∷ []) line refl c.in-ok-extend-from-slice-2.ensures.items refl
+    let line = joins was (124 ∷ []) shown c.in_ok-push.ensures.items refl c.in_ok-extend_from_slice.ensures.items (c.deref.ensures.value ∙ c.in_ok-escape.ensures) in
+    joins was (124 ∷ shown) (124 ∷ 10 ∷ []) line refl c.in_ok-extend_from_slice-2.ensures.items refl

@@ -12,13 +12,13 @@ use Rattle.reader.proofs.Losses.{bodies_whole, inside_fits, lost_leave_shelf}
 use Rattle.reader.proofs.Running.{Made, made_all, made_more, made_none}
 use Rattle.reader.proofs.run.run.Goals as goal
 
-pub returns-in-err-reader : goal.returns-in-err-reader
-returns-in-err-reader g c =
+pub returns-in_err-reader : goal.returns-in_err-reader
+returns-in_err-reader g c =
     let q : Setup = setup c.args.names.now c.args.share g.R.LineRule in
     let p = err_from_is_err_and c.from-residual.result c.from-residual.ensures.1 in
     rw (p.1, p.2)
     record {
-      refused = (c.in-err-reader.ensures.value, refl, refl, refl);
+      refused = (c.in_err-reader.ensures.value, refl, refl, refl);
       determined = tt;
       damage_ends = damage_ends q;
       bodies_whole = tt;
@@ -31,7 +31,7 @@ loop-i-init g c =
     let shelf = c.args.shelf.now in
     let targets = c.args.targets.now in
     let replies = c.args.replies.now in
-    let begun = c.in-ok-reader.ensures.value in
+    let begun = c.in_ok-reader.ensures.value in
     let none = made_none q c.args.calls.now shelf targets replies in (
       subst (λ (s : State). Made q c.args.calls.now shelf targets replies 0 s shelf targets replies) (sym begun.3) none,
       begun.1,
@@ -47,7 +47,7 @@ loop-i-preserved g c =
     let inv = c.loop-i.invariant in
     let first : Call = Line record { ref_ptr = (0, 0); now = [] } in
     let t : Turn = record { reply = c.reply.result; state = c.reply.new.reader.state; shelf = c.reply.new.shelf; targets = c.reply.new.targets } in
-    let started = c.in-ok-reader.ensures.starts in
+    let started = c.in_ok-reader.ensures.starts in
     let more : i < length calls = omega arith in
     let place : i < length c.loop-i.replies = omega (arith, c.loop-i.auto.replies) in
     let same : setup r.names.now r.share g.R.LineRule ≡ q =
@@ -64,7 +64,7 @@ loop-i-preserved g c =
 pub returns : goal.returns
 returns g c =
     let q : Setup = setup c.args.names.now c.args.share g.R.LineRule in
-    let started = c.in-ok-reader.ensures in
+    let started = c.in_ok-reader.ensures in
     record {
       refused = started.value.0;
       determined = made_all q c.args.calls.now c.args.shelf.now c.args.targets.now c.args.replies.now c.loop-i.i c.loop-i.reader.state c.loop-i.shelf c.loop-i.targets c.loop-i.replies (omega arith) c.loop-i.auto.replies c.loop-i.invariant.0;

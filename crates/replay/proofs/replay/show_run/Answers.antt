@@ -9,11 +9,11 @@ loop-i-preserved c =
     let calls = c.args.calls.now in
     let replies = c.args.replies.now in
     lines_more targets calls replies (shown_run targets calls replies) c.loop-i.i
-    (vec_items c.loop-i.lines) c.deref.result.now c.target-of-target.result.now
-    {mid = vec_items c.extend-from-slice.new.self} {end = vec_items c.push.new.self}
-    (omega arith) (omega arith) c.loop-i.invariant c.target-of-target.ensures
-    (c.deref.ensures.value ∙ c.in-ok-show-reply.ensures)
-    c.in-ok-extend-from-slice.ensures.items c.in-ok-push.ensures.items
+    (vec_items c.loop-i.lines) c.deref.result.now c.target_of-target.result.now
+    {mid = vec_items c.extend_from_slice.new.self} {end = vec_items c.push.new.self}
+    (omega arith) (omega arith) c.loop-i.invariant c.target_of-target.ensures
+    (c.deref.ensures.value ∙ c.in_ok-show_reply.ensures)
+    c.in_ok-extend_from_slice.ensures.items c.in_ok-push.ensures.items
 
 pub returns : goal.returns
 returns c =

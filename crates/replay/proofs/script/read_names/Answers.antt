@@ -3,23 +3,23 @@ use Rattle.std.proofs.lemmas.Result.{err_from_is_err_and}
 use Rattle.replay.proofs.Scripts.{names_next, names_none, names_push, names_start}
 use Rattle.replay.proofs.script.read_names.Goals as goal
 
-pub returns-then-is-same : goal.returns-then-is-same
-returns-then-is-same c =
+pub returns-then-is_same : goal.returns-then-is_same
+returns-then-is_same c =
     record {
-      read = names_start c.args.lines.now (vec_items c.loop-i.names) c.loop-i.i _ c.loop-i-test.true c.loop-i.invariant c.if-is-same.ensures;
+      read = names_start c.args.lines.now (vec_items c.loop-i.names) c.loop-i.i _ c.loop-i-test.true c.loop-i.invariant c.if-is_same.ensures;
       within = c.loop-i-test.true;
     }
 
-pub returns-in-err-name : goal.returns-in-err-name
-returns-in-err-name c =
+pub returns-in_err-name : goal.returns-in_err-name
+returns-in_err-name c =
     let p = err_from_is_err_and c.from-residual.result c.from-residual.ensures.1 in
-    let next = names_next c.args.lines.now (vec_items c.loop-i.names) c.loop-i.i _ c.name-of.result _ c.loop-i-test.true c.loop-i.invariant c.if-is-same.ensures c.name-of.ensures c.in-err-name.ensures in
+    let next = names_next c.args.lines.now (vec_items c.loop-i.names) c.loop-i.i _ c.name_of.result _ c.loop-i-test.true c.loop-i.invariant c.if-is_same.ensures c.name_of.ensures c.in_err-name.ensures in
     record { read = rw (p.1, p.2) next; within = rw p.1 tt }
 
 pub loop-i-preserved : goal.loop-i-preserved
 loop-i-preserved c =
-    let next = names_next c.args.lines.now (vec_items c.loop-i.names) c.loop-i.i _ c.name-of.result _ c.loop-i-test.true c.loop-i.invariant c.if-is-same.ensures c.name-of.ensures c.in-ok-name.ensures in
-    names_push c.args.lines.now (vec_items c.loop-i.names) _ c.in-ok-name.name c.in-ok-push.ensures.items next
+    let next = names_next c.args.lines.now (vec_items c.loop-i.names) c.loop-i.i _ c.name_of.result _ c.loop-i-test.true c.loop-i.invariant c.if-is_same.ensures c.name_of.ensures c.in_ok-name.ensures in
+    names_push c.args.lines.now (vec_items c.loop-i.names) _ c.in_ok-name.name c.in_ok-push.ensures.items next
 
 pub returns : goal.returns
 returns c =

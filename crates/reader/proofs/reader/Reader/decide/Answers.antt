@@ -17,8 +17,8 @@ open-requires g c =
       inside = text_inside _ _ line c.in-Opens-default-default.ensures (g.met.R.LineRule.inside line);
     }
 
-pub invariant-of-self : goal.invariant-of-self
-invariant-of-self g c =
+pub invariant_of-self : goal.invariant_of-self
+invariant_of-self g c =
     let line = c.args.line.now in
     let r = c.args.self.now in
     let i : c.in-Some.i < length r.names.now = c.in-Some.ensures.within in

@@ -12,18 +12,18 @@ returns-then-self g c =
     let did = sym (closed_first q c.args.line.now r.state c.args.shelf.now c.if-self.true) in
     record { did = did; leaves = leaves q c.args.line.now r.state c.args.shelf.now _ did; kept = (refl, refl, refl) }
 
-pub returns-then-is-short : goal.returns-then-is-short
-returns-then-is-short g c =
+pub returns-then-is_short : goal.returns-then-is_short
+returns-then-is_short g c =
     let r = c.args.self.now in
     let q = setup r.names.now r.share g.R.LineRule in
-    let did = sym (too_short q c.args.line.now r.state c.args.shelf.now c.if-self.false (sym c.if-is-short.ensures)) in
+    let did = sym (too_short q c.args.line.now r.state c.args.shelf.now c.if-self.false (sym c.if-is_short.ensures)) in
     record { did = did; leaves = leaves q c.args.line.now r.state c.args.shelf.now _ did; kept = (refl, refl, refl) }
 
 pub lose-requires : goal.lose-requires
 lose-requires g c = let r = c.args.self.now in below_all _ _ r.among r.few
 
-pub invariant-of-self : goal.invariant-of-self
-invariant-of-self g c =
+pub invariant_of-self : goal.invariant_of-self
+invariant_of-self g c =
     let r = c.args.self.now in
     let e = c.lose.ensures in
     let among = ap (λ s. below (length r.names.now) s.current) e in
@@ -36,7 +36,7 @@ returns-in-Some g c =
     let q = setup r.names.now r.share g.R.LineRule in
     let line = c.args.line.now in
     let shelf = c.args.shelf.now in
-    let read = then_read q line r.state shelf c.if-self.false (sym c.if-is-short.ensures) in
+    let read = then_read q line r.state shelf c.if-self.false (sym c.if-is_short.ensures) in
     let bad = ap (unless_bad q line r.state shelf) c.in-Some.ensures.value in
     let did = ap (refuses q line r.state shelf (BadLine c.in-Some.at)) c.lose.ensures ∙ bad ∙ sym read in
     record { did = did; leaves = leaves q line r.state shelf _ did; kept = (refl, refl, refl) }
@@ -44,8 +44,8 @@ returns-in-Some g c =
 pub decide-requires : goal.decide-requires
 decide-requires g c =
     record {
-      long = sym c.if-is-short.ensures;
-      brief = c.in-default.ensures.reads.0;
+      long = sym c.if-is_short.ensures;
+      brief = c.in_default.ensures.reads.0;
     }
 
 pub returns : goal.returns
@@ -54,7 +54,7 @@ returns g c =
     let q = setup r.names.now r.share g.R.LineRule in
     let line = c.args.line.now in
     let shelf = c.args.shelf.now in
-    let read = then_read q line r.state shelf c.if-self.false (sym c.if-is-short.ensures) in
-    let good = ap (unless_bad q line r.state shelf) c.in-default.ensures.value in
+    let read = then_read q line r.state shelf c.if-self.false (sym c.if-is_short.ensures) in
+    let good = ap (unless_bad q line r.state shelf) c.in_default.ensures.value in
     let did = c.decide.ensures.did ∙ good ∙ sym read in
     record { did = did; leaves = leaves q line r.state shelf _ did; kept = c.decide.ensures.kept }

@@ -14,10 +14,10 @@ returns c =
     let line = c.args.line.now in
     let bytes = opening_text c.args.text line in
     let fits : length bytes ≤ length line + 1 = opening_fits c.args.text line c.requires.inside in
-    let used = c.store-opening-used.result in
+    let used = c.store_opening-used.result in
     let set_at : State → State = λ s. record { records = set s.records i record { kept = Whole; used = used }; current = Some i; lost = s.lost; closed = s.closed } in
     record {
-      state = ap set_at c.finish-section.ensures ∙ ap (λ n. opened_at i n c.args.self.now) c.store-opening-used.ensures.used;
-      shelf = within_part shelf bytes c.store-opening-used.new.share start c.args.share (start + c.args.share - start) 0 (omega arith) (omega arith) (omega arith) c.store-opening-used.ensures.stored
+      state = ap set_at c.finish_section.ensures ∙ ap (λ n. opened_at i n c.args.self.now) c.store_opening-used.ensures.used;
+      shelf = within_part shelf bytes c.store_opening-used.new.share start c.args.share (start + c.args.share - start) 0 (omega arith) (omega arith) (omega arith) c.store_opening-used.ensures.stored
           ∙ ap (λ at. put at bytes shelf) (add-zero start);
     }
