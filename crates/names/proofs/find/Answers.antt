@@ -5,13 +5,13 @@ use Rattle.names.proofs.find.Goals as goal
 
 pub returns-then-is_called : goal.returns-then-is_called
 returns-then-is_called c = record {
-  value = index_here c.args.names.now (looked_up c.args.lowered c.args.name.now) c.loop-i.i (record { ref_ptr = (0, 0); ghost_name = 0; now = [] }) c.loop-i-test.true c.if-is_called.ensures c.loop-i.invariant;
+  value = index_here c.args.names.now (looked_up c.args.lowered c.args.name.now) c.loop-i.i (record { ref_ptr = (0, 0); now = [] }) c.loop-i-test.true c.if-is_called.ensures c.loop-i.invariant;
   within = c.loop-i-test.true;
 }
 
 pub loop-i-preserved : goal.loop-i-preserved
 loop-i-preserved c =
-    index_later c.args.names.now (looked_up c.args.lowered c.args.name.now) c.loop-i.i (record { ref_ptr = (0, 0); ghost_name = 0; now = [] }) c.loop-i-test.true c.if-is_called.ensures c.loop-i.invariant
+    index_later c.args.names.now (looked_up c.args.lowered c.args.name.now) c.loop-i.i (record { ref_ptr = (0, 0); now = [] }) c.loop-i-test.true c.if-is_called.ensures c.loop-i.invariant
 
 pub returns : goal.returns
 returns c = record {
