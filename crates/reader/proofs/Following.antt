@@ -1,5 +1,5 @@
 -- A reader follows the calls it is given: its records and its shelf hold what their stretches say.
-use Rattle.std.proofs.Common.{◌≡◌, ℕ, zero, suc, ◌*◌, ◌<◌, ◌≤◌, Bool, true, false, cond, not, ◌&&◌, ltb, List, [], ◌∷◌, ◌++◌, length, get_or, replicate, Some, None, Ok, Err, Option, sym, refl, ap, ◌∙◌, subst, inl, inr, MutBor}
+use Rattle.std.proofs.Common.{◌≡◌, ℕ, zero, suc, ◌*◌, ◌<◌, ◌≤◌, Bool, true, false, cond, not, ◌&&◌, ltb, List, [], ◌∷◌, ◌++◌, length, get_or, replicate, Some, None, Ok, Err, Option, sym, refl, ap, ◌∙◌, subst, inl, inr, Bor}
 use Rattle.std.proofs.lemmas.List.{append-nil}
 use Rattle.std.proofs.lemmas.Bool.{cases_Bool, false≢true, ltb-false, ltb-true, true≢false}
 use Rattle.refusal.specs.declared.Refusal.TheVariants.{AlreadyClosed, NoText, ShortShelf, StillReading}
@@ -243,7 +243,7 @@ module _ (q : Setup) where
 
   module _ (few : length q.names ≤ 64) (least : 1001 ≤ q.share) (starts_fit : (c : Call) → readable c ≡ true → length (starts q c) ≤ q.share) (len : ℕ) where
     -- a line
-    line_does : (h : List Call) (l : MutBor (List ℕ)) (s : State) (shelf targets : List ℕ) → length shelf ≡ len → Follows len h s shelf →
+    line_does : (h : List Call) (l : Bor (List ℕ)) (s : State) (shelf targets : List ℕ) → length shelf ≡ len → Follows len h s shelf →
         Does len h (Line l) shelf targets (called q s shelf targets (Line l))
     line_does h l s shelf targets long f =
         elim (cases_Bool (running h)) [

@@ -15,7 +15,7 @@ use Rattle.reader.proofs.run.run.Goals as goal
 pub returns-in_err-reader : goal.returns-in_err-reader
 returns-in_err-reader g c =
     let q : Setup = setup c.args.names.now c.args.share g.R.LineRule in
-    let p = err_from_is_err_and c.from-residual.result c.from-residual.ensures.1 in
+    let p = err_from_is_err_and c.from_residual.result c.from_residual.ensures.1 in
     rw (p.1, p.2)
     record {
       refused = (c.in_err-reader.ensures.value, refl, refl, refl);

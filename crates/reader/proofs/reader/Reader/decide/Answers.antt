@@ -27,7 +27,7 @@ invariant_of-self g c =
     let e = c.open.ensures.state in
     let among = ap (λ s. below (length r.names.now) s.current) e ∙ lt-ltb c.in-Some.i (length r.names.now) i in
     let within : (k : ℕ) → (record_at c.open.new.self k).used ≤ r.share = λ k. rw e (used_set r.state.records c.in-Some.i r.share _ (omega (arith, r.least, c.requires.brief)) r.within k) in
-    (r.few, (r.least, (r.most, (among, (within, tt)))))
+    record { few = r.few; least = r.least; most = r.most; among = among; within = within }
 
 pub keep-requires : goal.keep-requires
 keep-requires g c =

@@ -28,7 +28,7 @@ invariant_of-self g c =
     let e = c.lose.ensures in
     let among = ap (λ s. below (length r.names.now) s.current) e in
     let within : (k : ℕ) → (record_at c.lose.new.self k).used ≤ r.share = λ k. rw e (used_torn r.state.current r.state.records r.share r.within k) in
-    (r.few, (r.least, (r.most, (among, (within, tt)))))
+    record { few = r.few; least = r.least; most = r.most; among = among; within = within }
 
 pub returns-in-Some : goal.returns-in-Some
 returns-in-Some g c =

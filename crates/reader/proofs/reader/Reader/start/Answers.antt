@@ -27,7 +27,7 @@ invariant_of-result g c =
     let well = starts_well names c.args.share c.if-is_empty.ensures c.in_default.ensures.value c.if-not-share_fits.ensures in
     let within : (k : ℕ) → (record_at c.new.result k).used ≤ c.args.share = λ k. rw c.new.ensures (none_used 64 k c.args.share) in
     let among = ap (λ s. below (length names) s.current) c.new.ensures in
-    (few_names names c.in_default.ensures.value, (well.least, (well.most, (among, (within, tt)))))
+    record { few = few_names names c.in_default.ensures.value; least = well.least; most = well.most; among = among; within = within }
 
 pub returns : goal.returns
 returns g c =
