@@ -1,5 +1,5 @@
 -- Reading a script line by line.
-use Rattle.std.proofs.Common.{◌≡◌, ℕ, ◌+◌, ◌<◌, ◌≤◌, true, false, List, [], ◌∷◌, ◌++◌, map, length, get_or, drop, Ok, Err, codes, Result, sym, refl, ap, ◌∙◌, Bor, MutBor}
+use Rattle.std.proofs.Common.{◌≡◌, ℕ, ◌+◌, ◌<◌, ◌≤◌, true, false, List, [], ◌∷◌, ◌++◌, map, length, get_or, drop, Ok, Err, codes, Result, sym, refl, ap, ◌∙◌, Bor}
 use Rattle.std.specs.Str.{bytes_eq}
 use Rattle.std.proofs.lemmas.List.{at_drop_all, at_drop_more, get_or-map, length-map, map_push}
 use Rattle.std.proofs.lemmas.Bool.{le-ltb, lt-ltb}
@@ -69,7 +69,7 @@ module _ (lines : List (Bor (List ℕ))) (found : List (Bor (List ℕ))) (i : �
       sym (at_line (names_from (length (texts lines)) (texts found) i) lines i more ∙ starts (get_or lines i no_line).now (drop (i + 1) (texts lines)) is) ∙ so
 
   -- what the line gives, or the fault that it is
-  pub names_next : (r : Result (MutBor (List ℕ)) Wrong) (x : Result (MutBor (List ℕ)) Fault) → i < length lines → Naming →
+  pub names_next : (r : Result (Bor (List ℕ)) Wrong) (x : Result (Bor (List ℕ)) Fault) → i < length lines → Naming →
       false ≡ bytes_eq (get_or lines i no_line).now (codes "start") → said (λ n. n.now) r ≡ name_of (get_or lines i no_line).now → x ≡ on_line i r →
       and_then (said (λ n. n.now) x) (λ name. names_from (length (texts lines)) (texts found ++ name ∷ []) (i + 1) (drop (i + 1) (texts lines))) ≡ whole
   names_next r x more so is says e =

@@ -12,7 +12,7 @@ returns-then-is_same c =
 
 pub returns-in_err-name : goal.returns-in_err-name
 returns-in_err-name c =
-    let p = err_from_is_err_and c.from-residual.result c.from-residual.ensures.1 in
+    let p = err_from_is_err_and c.from_residual.result c.from_residual.ensures.1 in
     let next = names_next c.args.lines.now (vec_items c.loop-i.names) c.loop-i.i _ c.name_of.result _ c.loop-i-test.true c.loop-i.invariant c.if-is_same.ensures c.name_of.ensures c.in_err-name.ensures in
     record { read = rw (p.1, p.2) next; within = rw p.1 tt }
 

@@ -7,7 +7,7 @@ use Rattle.replay.proofs.script.read_script.Goals as goal
 
 pub returns-in_err-names : goal.returns-in_err-names
 returns-in_err-names c =
-    let p = err_from_is_err_and c.from-residual-in_err-names.result c.from-residual-in_err-names.ensures.1 in
+    let p = err_from_is_err_and c.from_residual-in_err-names.result c.from_residual-in_err-names.ensures.1 in
     let same = ap texts c.as_slice-lines.ensures.value ∙ c.in_ok-all.ensures.value in
     rw (p.1, p.2)
     (names_fail c.as_slice-lines.result.now _ same c.in_ok-rule.rule c.in_ok-share.share c.in_ok-shelf.shelf
@@ -16,7 +16,7 @@ returns-in_err-names c =
 
 pub returns-in_err-calls : goal.returns-in_err-calls
 returns-in_err-calls c =
-    let p = err_from_is_err_and c.from-residual-in_err-calls.result c.from-residual-in_err-calls.ensures.1 in
+    let p = err_from_is_err_and c.from_residual-in_err-calls.result c.from_residual-in_err-calls.ensures.1 in
     let same = ap texts c.as_slice-lines.ensures.value ∙ c.in_ok-all.ensures.value in
     rw (p.1, p.2)
     (calls_fail c.as_slice-lines.result.now _ same c.in_ok-rule.rule c.in_ok-share.share c.in_ok-shelf.shelf

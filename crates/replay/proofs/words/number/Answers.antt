@@ -10,7 +10,7 @@ loop-b-init c =
     read_all c.args.text.now (omega arith)
 
 pub returns-in_err-n : goal.returns-in_err-n
-returns-in_err-n c = c.from-residual.ensures ∙ read_more c.args.text.now c.loop-b.n c.loop-b.b-index _ c.loop-b-test.true c.loop-b.invariant c.in_err-n.ensures
+returns-in_err-n c = c.from_residual.ensures ∙ read_more c.args.text.now c.loop-b.n c.loop-b.b-index _ c.loop-b-test.true c.loop-b.invariant c.in_err-n.ensures
 
 pub loop-b-preserved : goal.loop-b-preserved
 loop-b-preserved c = read_more c.args.text.now c.loop-b.n c.loop-b.b-index _ c.loop-b-test.true c.loop-b.invariant c.in_ok-n.ensures
