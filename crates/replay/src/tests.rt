@@ -104,7 +104,9 @@ fn calls_are_answered(rt: HostRuntime) -> Result<(), Fail> {
         assert!(rt; replay(rt.alloc(), script)?.as_slice() == out);
     }
     let full = full_share(rt.alloc())?;
-    assert!(rt; replay(rt.alloc(), &full)?.as_slice() == b"started\n1 0\n3\nrefused 6 at 0\n");
+    assert!(rt;
+        replay(rt.alloc(), &full)?.as_slice() == b"started\n1 0\n3\nrefused 6 at 0\n".as_slice()
+    );
     Ok(())
 }
 
