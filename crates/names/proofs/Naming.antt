@@ -1,7 +1,7 @@
 -- Where a name stands among others, and which names can be asked for together.
 use Rattle.std.proofs.Common.{◌≡◌, ℕ, suc, ◌+◌, ◌<◌, ◌≤◌, Bool, true, false, cond, not, ◌&&◌, ◌||◌, eqb, ltb, leb, List, [], ◌∷◌, ◌++◌, length, get_or, take, drop, is_some, Some, None, Decides, Option, sym, refl, ap, ◌∙◌, subst, inl, inr, ⊎_elim, arith, Bor}
 use Rattle.std.specs.Option.{option_map}
-use Rattle.std.specs.List.{ContainsAt as Has, prefix_len, AllByRecursion as All}
+use Rattle.std.specs.List.{ContainsAt as Has, prefix_len, AllByRecursion}
 use Rattle.std.specs.Str.{bytes_eq}
 use Rattle.std.proofs.ByRecursion.{All-get_or, All-push, has_get_or}
 use Rattle.std.proofs.lemmas.Slice.Eq.{bytes_eq-Decides}
@@ -83,7 +83,7 @@ module _ (names : List (Bor (List ℕ))) (name : List ℕ) (i : ℕ) where
       sym (at_drop_all (λ ns. option_map (λ k. i + k) (index_of ns name)) (texts names) i (rw length-map past)) ∙ so
 
 abbrev Fits : List ℕ → Type 0
-Fits n = (1 ≤ length n) × (length n ≤ 64) × All (λ b. within 32 126 b ≡ true) n
+Fits n = (1 ≤ length n) × (length n ≤ 64) × AllByRecursion (λ b. within 32 126 b ≡ true) n
 
 -- a name fits if its length and its bytes do
 fitting_decides : (n : List ℕ) → Decides (fitting n) (Fits n)

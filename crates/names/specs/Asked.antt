@@ -1,7 +1,7 @@
 -- The names that are asked for.
 use Rattle.std.specs.Prelude.{◌≡◌, ℕ, suc, ◌+◌, ◌<◌, ◌≤◌, Bool, true, cond, not, ◌&&◌, List, [], ◌∷◌, ◌++◌, length, take, is_some, Some, None, Option, ◌==◌, ◌≢◌, nat_lt, slice_index_or}
 use Rattle.std.specs.Option.{option_map}
-use Rattle.std.specs.List.{prefix_len, AllByRecursion as All}
+use Rattle.std.specs.List.{prefix_len, AllByRecursion}
 use Rattle.std.specs.Str.{bytes_eq}
 use Rattle.text.specs.Bytes.{within}
 
@@ -37,7 +37,7 @@ names_fault names = fault_after [] names
 -- names that can be asked for together: at most 64, each of 1 to 64 bytes from 32 to 126, none twice
 pub record Askable (names : List (List ℕ)) : Type 0 where
   pub few : length names ≤ 64
-  pub fit : All (λ n. (1 ≤ length n) × (length n ≤ 64) × All (λ b. within 32 126 b ≡ true) n) names
+  pub fit : AllByRecursion (λ n. (1 ≤ length n) × (length n ≤ 64) × AllByRecursion (λ b. within 32 126 b ≡ true) n) names
   pub once : (j k : ℕ) → j < k → k < length names → slice_index_or names j [] ≢ slice_index_or names k []
 
 -- with no fault all can be asked for together; else those before the fault can, and with it they cannot

@@ -1,7 +1,7 @@
 -- The entry rules open exactly the lines of their forms.
 use Rattle.std.specs.Prelude.{◌≡◌, ℕ, ◌+◌, ◌-◌, ◌<◌, true, false, cond, ◌&&◌, ◌⊎◌, List, [], ◌∷◌, ◌++◌, length, drop, Some, Option, ◌==◌, ◌≢◌, nat_le, nat_lt, slice_index, refl}
 use Rattle.std.proofs.Common.{inl, inr, sym, ap, subst, ◌∙◌, add-zero, zero-add, arith, length-append}
-use Rattle.std.specs.List.{prefix_len, AllByRecursion as All}
+use Rattle.std.specs.List.{prefix_len, AllByRecursion}
 use Rattle.std.proofs.ByRecursion.{All-get_or}
 use Rattle.std.proofs.lemmas.List.{get_or_append_left}
 use Rattle.std.proofs.lemmas.Bool.{and_from, and_parts, cases_Bool, eq-eqb, eqb-false, le-leb, leb-true, lt-ltb, ltb-true, ne_eqb}
@@ -24,7 +24,7 @@ module _ (mark i : ℕ) (line : List ℕ) where
 
   -- the rules find a word, the mark behind it, and what is behind the mark
   word_found : (called back : List ℕ) → (0 == mark) ≡ false → word mark ≡ false →
-      All (λ b. word b ≡ true) called → drop i line ≡ called ++ mark ∷ back →
+      AllByRecursion (λ b. word b ≡ true) called → drop i line ≡ called ++ mark ∷ back →
       (prefix_len word (drop i line) ≡ length called)
       × (stands_at mark (i + length called) line ≡ true)
       × (drop (i + length called + 1) line ≡ back)
@@ -42,7 +42,7 @@ word_no_star : (b : ℕ) → word b ≡ true → star b ≡ false
 word_no_star b t = grind (arith, nat_tests)
 
 -- what begins with a word does not begin with a star
-word_first : (called back : List ℕ) → 0 < length called → All (λ b. word b ≡ true) called →
+word_first : (called back : List ℕ) → 0 < length called → AllByRecursion (λ b. word b ≡ true) called →
     star (slice_index (called ++ back) 0) ≡ false
 word_first called back some bytes =
     rw get_or_append_left (word_no_star (slice_index called 0) (All-get_or (λ b. word b ≡ true) called 0 0 some bytes))

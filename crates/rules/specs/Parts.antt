@@ -1,7 +1,7 @@
 -- The tests that the rules are made of, and the parts of a line that they speak of.
 use Rattle.std.specs.Prelude.{◌≡◌, ℕ, ◌+◌, ◌-◌, ◌<◌, ◌≤◌, Bool, true, false, List, ◌∷◌, ◌++◌, length, take, drop, ◌==◌, nat_le, nat_lt, slice_index, refl}
 use Rattle.std.proofs.Common.{inl, inr, sym, ap, ◌∙◌, add-zero, arith, length-append, length-drop}
-use Rattle.std.specs.List.{prefix_len, AllByRecursion as All}
+use Rattle.std.specs.List.{prefix_len, AllByRecursion}
 use Rattle.std.proofs.lemmas.List.{drop_all, drop_at, drop-drop, drop_more, get_or_at, get_or-drop, length-take-le, take-append-drop}
 use Rattle.std.proofs.lemmas.List.Sums.{prefix_len-le-length}
 use Rattle.std.proofs.lemmas.Bool.{and_from, and_parts, cases_lt, eq-eqb, eqb-true, le-leb, le-ltb, leb-true, lt-ltb, ltb-true}
@@ -23,7 +23,7 @@ stands_cut b i line t =
     (within, drop_more line i 0 within ∙ ap (λ x. x ∷ drop (i + 1) line) (eqb-true _ _ both.1))
 
 -- blanks behind what comes before them
-pub blank_there : (i : ℕ) (front rest : List ℕ) → length front ≡ i → All (λ b. blank b ≡ true) rest → blank_from i (front ++ rest) ≡ true
+pub blank_there : (i : ℕ) (front rest : List ℕ) → length front ≡ i → AllByRecursion (λ b. blank b ≡ true) rest → blank_from i (front ++ rest) ≡ true
 blank_there i front rest e blanks =
     let long = length-append front rest in
     let behind = drop_at front rest i e in
@@ -31,7 +31,7 @@ blank_there i front rest e blanks =
     and_from _ _ (le-leb i (length (front ++ rest)) (omega arith)) (eq-eqb _ _ (ap (prefix_len blank) behind ∙ run ∙ omega arith))
 
 -- where only blanks stand the rest is blanks
-pub blank_cut : (i : ℕ) (line : List ℕ) → blank_from i line ≡ true → (i ≤ length line) × All (λ b. blank b ≡ true) (drop i line)
+pub blank_cut : (i : ℕ) (line : List ℕ) → blank_from i line ≡ true → (i ≤ length line) × AllByRecursion (λ b. blank b ≡ true) (drop i line)
 blank_cut i line t =
     let both = and_parts (nat_le i (length line)) (prefix_len blank (drop i line) == length line - i) t in
     (leb-true i (length line) both.0, all_pass blank (drop i line) (eqb-true _ _ both.1 ∙ sym (length-drop i line)))
@@ -69,6 +69,6 @@ module _ (p : ℕ → Bool) (i : ℕ) (line : List ℕ) where
   run_stopped none = rw (get_or-drop, add-zero, ← get_or-drop) (run_stops p none (drop i line))
 
   -- bytes that pass, before one that does not, are what the rules count
-  pub run_found : (run back : List ℕ) → All (λ b. p b ≡ true) run → p (slice_index back 0) ≡ false → drop i line ≡ run ++ back →
+  pub run_found : (run back : List ℕ) → AllByRecursion (λ b. p b ≡ true) run → p (slice_index back 0) ≡ false → drop i line ≡ run ++ back →
       prefix_len p (drop i line) ≡ length run
   run_found run back pass stop e = ap (prefix_len p) e ∙ run_length p run back pass stop

@@ -1,7 +1,7 @@
 -- The section rules open exactly the lines of their forms.
 use Rattle.std.specs.Prelude.{◌≡◌, ℕ, ◌+◌, ◌<◌, ◌≤◌, true, not, ◌&&◌, List, [], ◌∷◌, ◌++◌, length, take, drop, None, Option, ◌==◌, nat_lt, slice_index, refl}
 use Rattle.std.proofs.Common.{append_assoc, inl, inr, ⊎_elim, sym, ap, subst, ◌∙◌, zero-add, arith, length-append}
-use Rattle.std.specs.List.{prefix_len, AllByRecursion as All}
+use Rattle.std.specs.List.{prefix_len, AllByRecursion}
 use Rattle.std.proofs.ByRecursion.{All-append}
 use Rattle.std.proofs.lemmas.List.{get_or_append_left, get_or-take, nil_from_length, take_at}
 use Rattle.std.proofs.lemmas.Bool.{and_from, and_parts, cases_Bool, eqb-false, eqb-true, lt-ltb, ltb-true, ne_eqb, not_from_false, not-true}
@@ -91,7 +91,7 @@ title_is run =
           (let empty = nil_from_length (stripped space run) (eqb-true (length (stripped space run)) 0 none) in
           let whole : run ≡ s.front ++ s.back = s.whole ∙ ap (λ rest. s.front ++ (rest ++ s.back)) empty in
           let spaces = All-append (λ b. space b ≡ true) s.front s.back s.front_passes s.back_passes in
-          inl (subst (All (λ b. space b ≡ true)) (sym whole) spaces, rw none))
+          inl (subst (AllByRecursion (λ b. space b ≡ true)) (sym whole) spaces, rw none))
       | inr some ↦
           (let more : 0 < length (stripped space run) = omega (arith, eqb-false (length (stripped space run)) 0 some) in
           let front = (strips_only space run (stripped space run) s more).0 in

@@ -1,6 +1,6 @@
 -- Where a line cannot be read.
 use Rattle.std.proofs.Common.{◌≡◌, ℕ, ◌<◌, ◌≤◌, min, true, false, List, length, get_or, Some, None, sym, refl, subst, inl, inr, ⊎_elim, arith}
-use Rattle.std.specs.List.{prefix_len, AllByRecursion as All}
+use Rattle.std.specs.List.{prefix_len, AllByRecursion}
 use Rattle.std.proofs.ByRecursion.{All-take}
 use Rattle.std.proofs.lemmas.List.{take-take}
 use Rattle.std.proofs.lemmas.List.Sums.{prefix_len-le-length}
@@ -22,7 +22,7 @@ module _ (line : List ℕ) (good : ℕ) (run : good ≡ min (prefix_len plain li
   pub reads_to : good < length line → Reads line (Some good)
   reads_to more = (
     more,
-    subst (All (λ b. plain b ≡ true)) (take-take good (prefix_len plain line) line (omega arith)) (All-take (λ b. plain b ≡ true) good _ (run_passes plain line)),
+    subst (AllByRecursion (λ b. plain b ≡ true)) (take-take good (prefix_len plain line) line (omega arith)) (All-take (λ b. plain b ≡ true) good _ (run_passes plain line)),
     ⊎_elim
         (λ few. let here : prefix_len plain line ≡ good = omega arith in inr (omega arith, subst (λ k. plain (get_or line k 0) ≡ false) here (run_stops plain refl line)))
         (λ many. inl (omega arith))

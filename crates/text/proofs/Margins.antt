@@ -1,6 +1,6 @@
 -- What a dedent takes off.
 use Rattle.std.proofs.Common.{◌≡◌, ℕ, zero, suc, ◌+◌, ◌-◌, ◌<◌, ◌≤◌, Bool, true, false, eqb, List, [], ◌∷◌, ◌++◌, map, length, get_or, take, drop, replicate, Some, None, fold, Option, unwrap_or, sym, refl, ap, ◌∙◌, inl, inr, append_assoc, zero-add, one-add, arith}
-use Rattle.std.specs.List.{common_prefix_len, prefix_len, AllByRecursion as All}
+use Rattle.std.specs.List.{common_prefix_len, prefix_len, AllByRecursion}
 use Rattle.std.proofs.ByRecursion.{All-append, All-drop, All-from_get_or, All-get_or, All-map, All-weaker}
 use Rattle.std.proofs.lemmas.List.Prefix.{front_fits, front_rest}
 use Rattle.std.proofs.lemmas.List.{append-nil, ext_get_or, get_or-map, length-append, length-drop, length-map, length-replicate, take-append-drop}
@@ -39,7 +39,7 @@ begins_cons : (t r : ℕ) (ts rs : List ℕ) → Begins (t ∷ ts) (r ∷ rs) �
 begins_cons t r ts rs b = (cc, cc)
 
 -- what holds of each byte of a text holds of each byte of a front
-begins_all : (P : ℕ → Type 0) (text run : List ℕ) → Begins text run → All P text → All P run
+begins_all : (P : ℕ → Type 0) (text run : List ℕ) → Begins text run → AllByRecursion P text → AllByRecursion P run
 begins_all P text [] b all = tt
 begins_all P [] (r ∷ rs) b all = absurd (begins_none r rs b)
 begins_all P (t ∷ ts) (r ∷ rs) b all =
@@ -47,7 +47,7 @@ begins_all P (t ∷ ts) (r ∷ rs) b all =
     (rw (← e.0) all.0, begins_all P ts rs e.1 all.1)
 
 -- a front that passes a test is a front of the longest that does
-begins_leading : (p : ℕ → Bool) (text run : List ℕ) → All (λ b. p b ≡ true) run → Begins text run →
+begins_leading : (p : ℕ → Bool) (text run : List ℕ) → AllByRecursion (λ b. p b ≡ true) run → Begins text run →
     Begins (take (prefix_len p text) text) run
 begins_leading p text [] pass b = refl
 begins_leading p [] (r ∷ rs) pass b = absurd (begins_none r rs b)
@@ -75,7 +75,7 @@ begins_both (x ∷ xs) (y ∷ ys) (r ∷ rs) b c =
 
 -- the runs that may still be the margin: any blanks before there is one, and then its fronts
 abbrev Within : Option (List ℕ) → List ℕ → Type 0
-Within None run = All (λ b. blank b ≡ true) run
+Within None run = AllByRecursion (λ b. blank b ≡ true) run
 Within (Some margin) run = Begins margin run
 
 -- a run that may be the margin, and that the line begins with, is a front of what the two share
@@ -128,7 +128,7 @@ within_itself None = tt
 within_itself (Some margin) = begins_run margin margin [] (sym (append-nil margin))
 
 -- any number of spaces are blanks
-spaces_blank : (n : ℕ) → All (λ b. blank b ≡ true) (replicate n 32)
+spaces_blank : (n : ℕ) → AllByRecursion (λ b. blank b ≡ true) (replicate n 32)
 spaces_blank zero = tt
 spaces_blank (suc n) = (refl, spaces_blank n)
 
@@ -153,7 +153,7 @@ within_longest None lines shares run w k there more =
 within_longest (Some margin) lines shares run w k there more = front_fits margin run (drop (length run) margin) w
 
 -- blanks put before a line add their number to its indent
-indent_behind : (run rest : List ℕ) → All (λ b. blank b ≡ true) run → indent (run ++ rest) ≡ length run + indent rest
+indent_behind : (run rest : List ℕ) → AllByRecursion (λ b. blank b ≡ true) run → indent (run ++ rest) ≡ length run + indent rest
 indent_behind [] rest blanks = sym (zero-add (indent rest))
 indent_behind (b ∷ bs) rest blanks = let i = indent_behind bs rest blanks.1 in rw blanks.0 (omega arith)
 
@@ -166,7 +166,7 @@ more_some line more =
 -- lines less a run of blanks that they share, be it the longest or not
 record Takes (before after : List (List ℕ)) : Type 0 where
   run : List ℕ
-  run_blank : All (λ b. blank b ≡ true) run
+  run_blank : AllByRecursion (λ b. blank b ≡ true) run
   run_shared : Shared run before
   lines : after ≡ map (less (length run)) before
 
@@ -232,9 +232,9 @@ dedents_lines lines =
 
 -- a line without line feeds has none when some bytes are taken off
 less_apart : (width : ℕ) (line : List ℕ) →
-    All (λ b. inside b ≡ true) line → All (λ b. inside b ≡ true) (less width line)
+    AllByRecursion (λ b. inside b ≡ true) line → AllByRecursion (λ b. inside b ≡ true) (less width line)
 less_apart width line apart =
-    let Apart : List ℕ → Type 0 = All (λ b. inside b ≡ true) in
+    let Apart : List ℕ → Type 0 = AllByRecursion (λ b. inside b ≡ true) in
     cond_both (blank_line line) [] (drop width line) Apart (λ t. tt)
     (λ f. All-drop (λ b. inside b ≡ true) width line apart)
 
@@ -263,7 +263,7 @@ lines_dedented : (text : List ℕ) → lines_of (dedented text) ≡ dedent_lines
 lines_dedented text =
     let lines = lines_of text in
     let width = length (margin_of lines) in
-    let Apart : List ℕ → Type 0 = All (λ b. inside b ≡ true) in
+    let Apart : List ℕ → Type 0 = AllByRecursion (λ b. inside b ≡ true) in
     let apart = All-weaker Apart (λ l. Apart (less width l)) (less_apart width) lines (lines_apart text) in
     lines_unlines (dedent_lines lines) (All-map Apart (less width) lines apart)
 

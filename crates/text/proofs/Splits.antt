@@ -1,6 +1,6 @@
 -- What the lines of a text are.
 use Rattle.std.proofs.Common.{◌≡◌, ℕ, ◌+◌, ◌-◌, ◌<◌, min, true, false, eqb, List, [], ◌∷◌, ◌++◌, length, get_or, take, drop, Some, sym, refl, ap, ◌∙◌, inl, inr, append_assoc, add-one, sub-one, one-add, arith, length-drop, length-take}
-use Rattle.std.specs.List.{prefix_len, AllByRecursion as All}
+use Rattle.std.specs.List.{prefix_len, AllByRecursion}
 use Rattle.std.proofs.lemmas.List.{take_rest}
 use Rattle.std.proofs.lemmas.List.Sums.{prefix_len-le-length}
 use Rattle.std.proofs.lemmas.Bool.{cases_Bool, eqb-true, not-false}
@@ -32,12 +32,12 @@ line_cut text end next some run e =
 
 -- lines stay without line feeds when another byte is put before the first
 before_apart : (b : ℕ) (ls : List (List ℕ)) → inside b ≡ true →
-    All (λ l. All (λ b. inside b ≡ true) l) ls → All (λ l. All (λ b. inside b ≡ true) l) (before b ls)
+    AllByRecursion (λ l. AllByRecursion (λ b. inside b ≡ true) l) ls → AllByRecursion (λ l. AllByRecursion (λ b. inside b ≡ true) l) (before b ls)
 before_apart b [] t apart = ((t, tt), tt)
 before_apart b (l ∷ ls) t apart = ((t, apart.0), apart.1)
 
 -- no line holds a line feed
-pub lines_apart : (text : List ℕ) → All (λ l. All (λ b. inside b ≡ true) l) (lines_of text)
+pub lines_apart : (text : List ℕ) → AllByRecursion (λ l. AllByRecursion (λ b. inside b ≡ true) l) (lines_of text)
 lines_apart [] = tt
 lines_apart (b ∷ bs) =
     elim (cases_Bool (inside b)) [
@@ -70,13 +70,13 @@ pub lines_split : (text : List ℕ) → Splits text (lines_of text)
 lines_split text = record { apart = lines_apart text; whole = lines_whole text }
 
 -- a text that begins with a line and a line feed has that line and then those of the rest
-lines_behind : (line rest : List ℕ) → All (λ b. inside b ≡ true) line →
+lines_behind : (line rest : List ℕ) → AllByRecursion (λ b. inside b ≡ true) line →
     lines_of (line ++ 10 ∷ rest) ≡ line ∷ lines_of rest
 lines_behind [] rest apart = refl
 lines_behind (b ∷ bs) rest apart = rw (apart.0, lines_behind bs rest apart.1)
 
 -- lines without line feeds, put together, are the lines of the text that they make
-pub lines_unlines : (lines : List (List ℕ)) → All (λ l. All (λ b. inside b ≡ true) l) lines →
+pub lines_unlines : (lines : List (List ℕ)) → AllByRecursion (λ l. AllByRecursion (λ b. inside b ≡ true) l) lines →
     lines_of (unlines lines) ≡ lines
 lines_unlines [] apart = refl
 lines_unlines (l ∷ ls) apart = rw append_assoc (rw (lines_behind l (unlines ls) apart.0, lines_unlines ls apart.1))

@@ -1,7 +1,7 @@
 -- What stripping leaves and takes.
 use Rattle.std.proofs.Common.{◌≡◌, ℕ, ◌+◌, ◌-◌, ◌<◌, ◌≤◌, Bool, true, false, List, [], ◌++◌, reverse, length, get_or, take, drop, sym, ap, ◌∙◌, ⊎_elim, add-zero, arith, length-append, length-drop}
 use native.Mathlib.Nat.{sub-zero}
-use Rattle.std.specs.List.{prefix_len, suffix_len, AllByRecursion as All}
+use Rattle.std.specs.List.{prefix_len, suffix_len, AllByRecursion}
 use Rattle.std.proofs.ByRecursion.{All-from_get_or, All-get_or}
 use Rattle.std.proofs.lemmas.List.{drop_all, drop_at, get_or_append_left, get_or-drop, get_or-reverse, get_or-take, get_or_past, length-reverse, length-take-le, reverse-append, take_at, take_rest, take-append-drop}
 use Rattle.std.proofs.lemmas.List.Sums.{suffix_len-le-length}
@@ -27,7 +27,7 @@ module _ (p : ℕ → Bool) where
       cc
 
   -- the bytes that come off at the end pass
-  end_passes : (xs : List ℕ) → All (λ b. p b ≡ true) (drop (length xs - suffix_len p xs) xs)
+  end_passes : (xs : List ℕ) → AllByRecursion (λ b. p b ≡ true) (drop (length xs - suffix_len p xs) xs)
   end_passes xs =
       let m : ℕ = length xs - suffix_len p xs in
       All-from_get_or (λ b. p b ≡ true) (drop m xs) 0 (λ i inside. rw get_or-drop (at_end xs (m + i) (omega (arith, length-drop m xs)) (omega arith)))
@@ -67,13 +67,13 @@ module _ (p : ℕ → Bool) where
         }
 
   -- a text that passes is stripped to nothing
-  pub strip_all : (text : List ℕ) → All (λ b. p b ≡ true) text → stripped p text ≡ []
+  pub strip_all : (text : List ℕ) → AllByRecursion (λ b. p b ≡ true) text → stripped p text ≡ []
   strip_all text pass =
       let none = drop_all (prefix_len p text) text (omega (arith, run_all p text pass)) in
       ap (shortened p) none
 
   -- bytes that pass, in the other order
-  all_reverse : (xs : List ℕ) → All (λ b. p b ≡ true) xs → All (λ b. p b ≡ true) (reverse xs)
+  all_reverse : (xs : List ℕ) → AllByRecursion (λ b. p b ≡ true) xs → AllByRecursion (λ b. p b ≡ true) (reverse xs)
   all_reverse xs pass =
       All-from_get_or (λ b. p b ≡ true) (reverse xs) 0 (λ i inside.
       let long = length-reverse xs in

@@ -1,7 +1,7 @@
 -- The lines of a text. What a line end is stands in this file alone.
 use Rattle.std.specs.Prelude.{◌≡◌, ℕ, ◌+◌, ◌-◌, ◌<◌, ◌≤◌, min, Bool, true, false, cond, not, ◌⊎◌, List, [], ◌∷◌, ◌++◌, map, length, take, drop, Some, None, Option, ◌==◌, nat_lt, slice_index, slice_index_or}
 use Rattle.std.specs.Borrow.{Bor}
-use Rattle.std.specs.List.{flat_map, prefix_len, AllByRecursion as All}
+use Rattle.std.specs.List.{flat_map, prefix_len, AllByRecursion}
 use Rattle.text.specs.Bytes.{plain}
 
 -- not a line feed
@@ -28,7 +28,7 @@ ended text = cond (inside (slice_index_or text (length text - 1) 10)) (text ++ 1
 
 -- no line holds a line feed, and put together again the lines are the text
 pub record Splits (text : List ℕ) (lines : List (List ℕ)) : Type 0 where
-  pub apart : All (λ l. All (λ b. inside b ≡ true) l) lines
+  pub apart : AllByRecursion (λ l. AllByRecursion (λ b. inside b ≡ true) l) lines
   pub whole : unlines lines ≡ ended text
 
 -- the first line, and what stands behind its line feed: the text of the other lines; nothing where the text is empty
@@ -50,6 +50,6 @@ fault_of line =
 -- a line can be read when it has at most 1,000 bytes, all of them plain; else all is well before the place
 -- given, which is the first byte that is not plain, or 1,000
 abbrev pub Reads : List ℕ → Option ℕ → Type 0
-Reads line None = (length line ≤ 1000) × All (λ b. plain b ≡ true) line
+Reads line None = (length line ≤ 1000) × AllByRecursion (λ b. plain b ≡ true) line
 Reads line (Some k) =
-    (k < length line) × All (λ b. plain b ≡ true) (take k line) × ((k ≡ 1000) ⊎ ((k < 1000) × (plain (slice_index line k) ≡ false)))
+    (k < length line) × AllByRecursion (λ b. plain b ≡ true) (take k line) × ((k ≡ 1000) ⊎ ((k < 1000) × (plain (slice_index line k) ≡ false)))
