@@ -7,7 +7,7 @@ use Rattle.lines.specs.Rows.{numbered}
 -- in two calls, each of which adds what is known under another name
 pub joins : (was a b : List ℕ) {mid end one two : List ℕ} →
     mid ≡ was ++ one → one ≡ a → end ≡ mid ++ two → two ≡ b → end ≡ was ++ (a ++ b)
-joins was a b first is-a second is_b = let join = append_assoc was a b in cc
+joins was a b first is_a second is_b = let join = append_assoc was a b in cc
 
 -- one space more
 pub joins_space : (was : List ℕ) (n : ℕ) {mid end : List ℕ} →

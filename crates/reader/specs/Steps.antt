@@ -1,5 +1,5 @@
 -- What each operation does to a reader, and to the memory lent to it.
-use Rattle.std.specs.Prelude.{◌≡◌, ℕ, ◌+◌, ◌*◌, Bool, true, false, cond, ◌||◌, List, length, get_or, take, drop, replicate, Some, None, Ok, Err, Option, Result, ◌==◌, nat_le, nat_lt, slice_index_or, slice_set}
+use Rattle.std.specs.Prelude.{◌≡◌, ℕ, ◌+◌, ◌*◌, Bool, true, false, cond, ◌||◌, List, length, take, drop, replicate, Some, None, Ok, Err, Option, Result, ◌==◌, nat_le, nat_lt, slice_index_or, slice_set}
 use Rattle.refusal.specs.Numbers.{number}
 use Rattle.refusal.specs.declared.Refusal.{Refusal}
 use Rattle.refusal.specs.declared.Refusal.TheVariants.{AlreadyClosed, ShortShelf, BadLine, FullShare, StillReading, NoText, TornText, ShortTarget}
@@ -57,7 +57,7 @@ shut s = record { records = s.records; current = None; lost = false; closed = tr
 -- the open name, if there is one, is torn
 abbrev pub torn_at : Option ℕ → List NameRecord → List NameRecord
 torn_at None rs = rs
-torn_at (Some i) rs = slice_set rs i record { kept = Torn; used = (get_or rs i absent).used }
+torn_at (Some i) rs = slice_set rs i record { kept = Torn; used = (slice_index_or rs i absent).used }
 
 -- the open name is torn, none is open, and the reader is lost
 abbrev pub strayed : State → State

@@ -60,11 +60,11 @@ starlark_sound line t =
     let few = and_parts (nat_le s 2) (nat_lt 0 k && stands_at 58 (s + k) line) t in
     let named = and_parts (nat_lt 0 k) (stands_at 58 (s + k) line) few.1 in
     let stars_cut = rw zero-add at (run_cut star 0 line) in
-    let called-cut = word_cut 58 s line named.1 in
-    let blanks-cut = run_cut blank m line in
-    let stars-long = run_counted star 0 line in
-    let called-long = run_counted word s line in
-    let blanks-long = run_counted blank m line in
+    let called_cut = word_cut 58 s line named.1 in
+    let blanks_cut = run_cut blank m line in
+    let stars_long = run_counted star 0 line in
+    let called_long = run_counted word s line in
+    let blanks_long = run_counted blank m line in
     record {
       stars = run_at star 0 line;
       called = run_at word s line;
@@ -77,7 +77,7 @@ starlark_sound line t =
       called_bytes = run_passes word (drop s line);
       blanks_are = run_passes blank (drop m line);
       rest_first = run_stopped blank m line refl;
-      name_is = rw (stars-long, called-long);
+      name_is = rw (stars_long, called_long);
       text_is = cc;
     }
 
@@ -89,14 +89,14 @@ starlark_complete line n t f =
     let text = f.blanks ++ f.rest in
     let named = f.called ++ 58 ∷ text in
     let first = word_first f.called (58 ∷ text) f.called_some f.called_bytes in
-    let stars-long = run_found star 0 line f.stars named f.stars_are first f.line_is in
+    let stars_long = run_found star 0 line f.stars named f.stars_are first f.line_is in
     let behind = rw zero-add at (drop_behind 0 line f.stars named f.line_is) in
     let w = word_found 58 s line f.called text refl refl f.called_bytes behind in
-    let blanks-long = run_found blank (s + k + 1) line f.blanks f.rest f.blanks_are f.rest_first w.2 in (
-      rw (stars-long, w.0)
+    let blanks_long = run_found blank (s + k + 1) line f.blanks f.rest f.blanks_are f.rest_first w.2 in (
+      rw (stars_long, w.0)
           (and_from _ _ (le-leb s 2 f.stars_few) (and_from _ _ (lt-ltb 0 k f.called_some) w.1)),
-      rw (stars-long, w.0) (sym f.name_is),
-      rw (stars-long, w.0, blanks-long) (sym f.text_is),
+      rw (stars_long, w.0) (sym f.name_is),
+      rw (stars_long, w.0, blanks_long) (sym f.text_is),
     )
 
 -- the name and the text of a Starlark entry lie inside the line
@@ -182,10 +182,10 @@ rust_sound line t =
     let named = and_parts (nat_lt 0 k) (stands_at 96 (s + k) line) quoted.1 in
     let b = bullet_cut line quoted.0 in
     let c = colon_cut (s + k + 1) line in
-    let called-cut = word_cut 96 s line named.1 in
-    let blanks-cut = run_cut blank m line in
-    let called-long = run_counted word s line in
-    let blanks-long = run_counted blank m line in
+    let called_cut = word_cut 96 s line named.1 in
+    let blanks_cut = run_cut blank m line in
+    let called_long = run_counted word s line in
+    let blanks_long = run_counted blank m line in
     record {
       bullet = b.0;
       called = run_at word s line;
@@ -196,10 +196,10 @@ rust_sound line t =
       bullet_is = b.1;
       called_some = omega (arith, ltb-true 0 k named.0);
       called_bytes = run_passes word (drop s line);
-      colon_is = subst (Colon c.0) blanks-cut c.1;
+      colon_is = subst (Colon c.0) blanks_cut c.1;
       blanks_are = run_passes blank (drop m line);
       rest_first = run_stopped blank m line refl;
-      name_is = rw (b.2, called-long);
+      name_is = rw (b.2, called_long);
       text_is = cc;
     }
 
@@ -216,13 +216,13 @@ rust_complete line n t f =
     let quoted = rw zero-add at (drop_behind 0 line f.bullet (96 ∷ named) f.line_is) in
     let behind = drop_behind (length f.bullet) line (96 ∷ []) named quoted in
     let w = word_found 96 s line f.called (f.colon ++ text) refl refl f.called_bytes behind in
-    let colon-long = colon_found e line f.colon text f.colon_is w.2 in
+    let colon_long = colon_found e line f.colon text f.colon_is w.2 in
     let marked = drop_behind e line f.colon text w.2 in
     let m = e + length f.colon in
-    let blanks-long = run_found blank m line f.blanks f.rest f.blanks_are f.rest_first marked in (
+    let blanks_long = run_found blank m line f.blanks f.rest f.blanks_are f.rest_first marked in (
       rw (at_name, w.0) (and_from _ _ quote (and_from _ _ (lt-ltb 0 k f.called_some) w.1)),
       rw (at_name, w.0) (sym f.name_is),
-      rw (at_name, w.0, colon-long, blanks-long) (sym f.text_is),
+      rw (at_name, w.0, colon_long, blanks_long) (sym f.text_is),
     )
 
 -- the name and the text of a Rust entry lie inside the line

@@ -34,19 +34,19 @@ starlark_sound line t =
     let first = and_parts (not (stands_at 32 0 line)) (stands_at 58 n line && blank_from (n + 1) line) some.1 in
     let marked = and_parts (stands_at 58 n line) (blank_from (n + 1) line) first.1 in
     let more = ltb-true 0 n some.0 in
-    let title-cut = rw zero-add at (run_cut title_byte 0 line) in
-    let title-long = run_counted title_byte 0 line in
+    let title_cut = rw zero-add at (run_cut title_byte 0 line) in
+    let title_long = run_counted title_byte 0 line in
     let colon = (stands_cut 58 n line marked.0).1 in
-    let no-space = sym (stands_read 32 0 line refl) ∙ not-true (stands_at 32 0 line) first.0 in
+    let no_space = sym (stands_read 32 0 line refl) ∙ not-true (stands_at 32 0 line) first.0 in
     record {
       title = run_at title_byte 0 line;
       rest = drop (n + 1) line;
       line_is = cc;
       title_some = omega arith;
       title_bytes = run_passes title_byte line;
-      title_first = rw (get_or-take n line 0 0 more) no-space;
+      title_first = rw (get_or-take n line 0 0 more) no_space;
       rest_blank = (blank_cut (n + 1) line marked.1).1;
-      name_is = rw title-long;
+      name_is = rw title_long;
       text_is = refl;
     }
 
@@ -54,15 +54,15 @@ starlark_sound line t =
 starlark_complete : Complete StarlarkHeading resuming heads_starlark starlark_title textless
 starlark_complete line n t f =
     let k = length f.title in
-    let title-long = run_found title_byte 0 line f.title (58 ∷ f.rest) f.title_bytes refl f.line_is in
+    let title_long = run_found title_byte 0 line f.title (58 ∷ f.rest) f.title_bytes refl f.line_is in
     let first = ap (λ l. space (slice_index l 0)) f.line_is ∙ ap space (get_or_append_left f.title (58 ∷ f.rest) 0 0 f.title_some) ∙ f.title_first in
     let colon = rw (← f.line_is) at (stands_there 58 k f.title f.rest refl) in
     let front = append_assoc f.title (58 ∷ []) f.rest in
     let blanks = rw (front, ← f.line_is) at (blank_there (k + 1) (f.title ++ 58 ∷ []) f.rest (length-append f.title (58 ∷ [])) f.rest_blank) in (
-      rw title-long
+      rw title_long
           (and_from _ _ (lt-ltb 0 k f.title_some)
           (and_from _ _ (not_from_false _ (stands_read 32 0 line refl ∙ first)) (and_from _ _ colon blanks))),
-      rw title-long (sym f.name_is),
+      rw title_long (sym f.name_is),
       sym f.text_is,
     )
 

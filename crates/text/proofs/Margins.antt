@@ -208,8 +208,8 @@ module _ (before after : List (List ℕ)) (taken : Takes before after) where
   taken_relative : (j k : ℕ) → j < length before → k < length before →
       blank_line (get_or before j []) ≡ false → blank_line (get_or before k []) ≡ false →
       indent (get_or after j []) + indent (get_or before k []) ≡ indent (get_or after k []) + indent (get_or before j [])
-  taken_relative j k in-j in-k more-j more-k =
-      let at_j = taken_indent j in-j more-j in let at-k = taken_indent k in-k more-k in omega arith
+  taken_relative j k in_j in_k more_j more_k =
+      let at_j = taken_indent j in_j more_j in let at_k = taken_indent k in_k more_k in omega arith
 
 -- the lines less their margin are those lines dedented
 pub dedents_lines : (lines : List (List ℕ)) → Dedents lines (dedent_lines lines)

@@ -15,7 +15,7 @@ abbrev pub trimmed : List ℕ → List ℕ
 trimmed text = stripped white text
 
 -- what comes off at both ends passes, and what is left begins and ends with a byte that does not pass, or is empty
--- (`get_or` past the end is 0, which none of our kinds of byte has)
+-- (`slice_index` past the end is 0, which none of our kinds of byte has)
 pub record Strips (p : ℕ → Bool) (text rest : List ℕ) : Type 0 where
   pub front : List ℕ
   pub back : List ℕ
