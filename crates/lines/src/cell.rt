@@ -1,11 +1,14 @@
-ghost use Rattle.std.specs.Prelude.{◌≡◌, ◌++◌, IfOk, Some, codes, OnOk};
+ghost use Rattle.std.specs.Prelude.{◌≡◌, IfOk, Some, string_bytes};
+ghost use Rattle.std.specs.Str.{IsAscii};
 ghost use Rattle.text.specs.Lines.{fault_of};
 ghost use Rattle.rules.specs.Meanings.{looked_up};
-ghost use Rattle.lines.specs.Rows.{cell_of, opening_cell, reading_of, text_cell};
+ghost use Rattle.lines.specs.Rows.{cell_of, reading_of};
+ghost use Rattle.lines.specs.Findings.{shown};
 
 use rules::meaning::Meaning;
 use rules::rule::LineRule;
 use std::alloc::{AllocError, Global};
+use std::fmt;
 use text::bytes::lower;
 use text::lines::fault;
 
@@ -13,6 +16,7 @@ use text::lines::fault;
 pub fn reading<R: LineRule>(rule: &R, line: &[u8]) -> Result<Meaning, usize>
     ensures { result ≡ reading_of (fault_of line.now) (R.LineRule.meaning line.now) }
 {
+    // A match: `map_or_else`, with the sides turned round, would read no plainer.
     match fault(line) {
         Some(at) => Err(at),
         None => Ok(rule.ask(line)),
@@ -20,64 +24,65 @@ pub fn reading<R: LineRule>(rule: &R, line: &[u8]) -> Result<Meaning, usize>
 }
 
 // The name as it is looked up.
-fn looked_up(heap: Global, name: &[u8], lowers: bool) -> Result<Vec<u8>, AllocError>
-    ensures { IfOk result (λ v. v.items ≡ looked_up lowers name.now) }
+fn looked_up(heap: Global, name: &[u8], lowers: bool) -> Result<String, AllocError>
+    requires { IsAscii name.now }
+    ensures { IfOk result (λ s. string_bytes s ≡ looked_up lowers name.now) }
 {
-    if lowers {
+    let bytes = if lowers {
         lower(heap, name)
     } else {
         Vec::from_slice(heap, name)
+    };
+    Ok(String::from_utf8(bytes?).unwrap())
+}
+
+// What is told of a line: what a rule makes of it, with the name as it is looked up.
+#[derive(Drop)]
+enum Finding {
+    Opens { name: String, text: Option<usize> },
+    Continues,
+    Stray,
+    Unreadable { at: usize },
+}
+
+impl Finding {
+    fn of<R: LineRule>(heap: Global, rule: &R, line: &[u8]) -> Result<Finding, AllocError>
+        ensures { IfOk result (λ f. shown f ≡ cell_of R.NAMES_LOWERED line.now (reading_of (fault_of line.now) (R.LineRule.meaning line.now))) }
+    {
+        match reading(rule, line) {
+            Ok(Meaning::Opens { name, text }) => {
+                let name = looked_up(heap, name.of(line), R::NAMES_LOWERED)?;
+                Ok(Finding::Opens { name, text })
+            }
+            Ok(Meaning::Continues) => Ok(Finding::Continues),
+            Ok(Meaning::Stray) => Ok(Finding::Stray),
+            Err(at) => Ok(Finding::Unreadable { at }),
+        }
     }
 }
 
-// Where the text starts, if there is one.
-fn push_text(heap: Global, cell: &mut Vec<u8>, text: Option<usize>) -> Result<(), AllocError>
-    ensures { OnOk result (cell.new.items ≡ cell.old.items ++ text_cell text) }
-{
-    if let Some(at) = text {
-        cell.extend_from_slice(format!(in heap; " @{at}")?.as_bytes())?;
-    }
-    Ok(())
-}
+// In a few words: `opens "name" @6`, where the text starts at byte 6.
+impl fmt::Display for Finding {
+    ghost output = { λ f. Some (shown f) };
 
-// `opens "name"`, and where the text starts.
-fn opening(
-    heap: Global,
-    name: &[u8],
-    lowers: bool,
-    text: Option<usize>,
-) -> Result<Vec<u8>, AllocError>
-    ensures { IfOk result (λ v. v.items ≡ opening_cell (looked_up lowers name.now) text) }
-{
-    let mut cell = Vec::new(heap);
-    cell.extend_from_slice(b"opens \"")?;
-    cell.extend_from_slice(&looked_up(heap, name, lowers)?)?;
-    cell.push(b'"')?;
-    push_text(heap, &mut cell, text)?;
-    Ok(cell)
+    fn fmt<W: fmt::Write>(&self, f: &mut fmt::Formatter<W>) -> fmt::Result {
+        match self {
+            Finding::Opens {
+                name,
+                text: Some(at),
+            } => write!(f, "opens \"{name}\" @{at}"),
+            Finding::Opens { name, text: None } => write!(f, "opens \"{name}\""),
+            Finding::Continues => f.write_str("continues"),
+            Finding::Stray => f.write_str("stray"),
+            Finding::Unreadable { at } => write!(f, "unreadable @{at}"),
+        }
+    }
 }
 
 // What a rule makes of a line, in a few words.
 pub fn cell<R: LineRule>(heap: Global, rule: &R, line: &[u8]) -> Result<Vec<u8>, AllocError>
-    ensures { IfOk result (λ v. v.items ≡ cell_of R.LineRule.fixed.names_lowered line.now (reading_of (fault_of line.now) (R.LineRule.meaning line.now))) }
+    ensures { IfOk result (λ v. v.items ≡ cell_of R.NAMES_LOWERED line.now (reading_of (fault_of line.now) (R.LineRule.meaning line.now))) }
 {
-    match reading(rule, line) {
-        Ok(Meaning::Opens { name, text }) => {
-            let from = name.at;
-            let to = from + name.len;
-            opening(heap, &line[from..to], R::properties().names_lowered, text)
-        }
-        Ok(Meaning::Continues) => Vec::from_slice(heap, b"continues"),
-        Ok(Meaning::Stray) => Vec::from_slice(heap, b"stray"),
-        Err(at) => unreadable(heap, at),
-    }
-}
-
-fn unreadable(heap: Global, at: usize) -> Result<Vec<u8>, AllocError>
-    ensures { IfOk result (λ v. v.items ≡ codes "unreadable" ++ text_cell (Some at)) }
-{
-    let mut cell = Vec::new(heap);
-    cell.extend_from_slice(b"unreadable")?;
-    push_text(heap, &mut cell, Some(at))?;
-    Ok(cell)
+    let finding = Finding::of(heap, rule, line)?;
+    Ok(finding.to_string(heap)?.into_bytes())
 }

@@ -1,107 +1,68 @@
 -- Where a name stands among others, and which names can be asked for together.
-use Rattle.std.proofs.Common.{◌≡◌, ℕ, suc, ◌+◌, ◌<◌, ◌≤◌, Bool, true, false, cond, not, ◌&&◌, ◌||◌, eqb, ltb, leb, List, [], ◌∷◌, ◌++◌, length, get_or, take, drop, is_some, Some, None, Decides, Option, sym, refl, ap, ◌∙◌, subst, inl, inr, ⊎_elim, arith, Bor}
-use Rattle.std.specs.Option.{option_map}
-use Rattle.std.specs.List.{ContainsAt as Has, prefix_len, AllByRecursion}
+use Rattle.std.proofs.Common.{◌≡◌, ℕ, ◌+◌, ◌<◌, ◌≤◌, Bool, true, false, cond, not, ◌&&◌, ltb, List, [], ◌∷◌, ◌++◌, map, length, get_or, take, Some, None, Decides, Option, sym, refl, ap, ◌∙◌, subst, ⊎_elim, inl, inr, arith, Bor}
+use Rattle.std.specs.Option.{MatchOption}
+use Rattle.std.specs.List.{list_all, position, position_or_len, prefix_len, All, Contains}
 use Rattle.std.specs.Str.{bytes_eq}
-use Rattle.std.proofs.ByRecursion.{All-get_or, All-push, has_get_or}
 use Rattle.std.proofs.lemmas.Slice.Eq.{bytes_eq-Decides}
-use Rattle.std.proofs.lemmas.List.{append_assoc, append-nil, at_drop_all, at_drop_more, get_or_append_left, get_or-map, get_or_push, length-append, length-map, length_push, length-take-le, map_more, take_at, take-map}
-use Rattle.std.proofs.lemmas.Bool.{and_from, and_parts, cases_Bool, cases_lt, cond_both, eq-eqb, eqb-true, le-leb, leb-true}
-use Rattle.std.proofs.lemmas.Bool.Decides.{Decides-and, Decides-by_or, Decides-ltb, Decides-not, not_from_Decides}
+use Rattle.std.proofs.lemmas.List.{append_assoc, append-nil, get_or_append_left, get_or_at, get_or-map, get_or_push, length-append, length-map, length_push, take_at, take-map}
+use Rattle.std.proofs.lemmas.List.Elements.{All-nil, All-push, at_from_Contains, Contains-get_or}
+use Rattle.std.proofs.lemmas.List.Quantifiers.{position-Some}
+use Rattle.std.proofs.lemmas.List.Sums.{AllPass-from_list_all, fails_before_first, list_all-from_AllPass, passes_at_first}
+use Rattle.std.proofs.lemmas.Bool.{and_from, and_parts, both_ways, cases_lt, cond_both, false≢true, le-leb, le-ltb, leb-true, lt-ltb}
+use Rattle.std.proofs.lemmas.Bool.Decides.{Decides-and, Decides-ltb, Decides-not, not_from_Decides}
 use Rattle.text.specs.Bytes.{within}
 use Rattle.text.specs.Lines.{texts}
-use Rattle.text.proofs.Leading.{all_pass, run_all}
 use Rattle.names.specs.Asked.{among, fault_after, fitting, index_of, joins, names_fault, printable, Askable, Faults}
 
--- a place that was moved on by one
-mapped_some : (o : Option ℕ) (i : ℕ) → option_map suc o ≡ Some i → (k : ℕ) × (o ≡ Some k) × (i ≡ suc k)
-mapped_some None i e = let z : ◌≡◌ {A = ℕ} 0 1 = cc in absurd (omega arith)
-mapped_some (Some k) i e = (k, refl, cc)
+-- as many pass from the front of a list as of what it is made of
+prefix_len-map : {A B : Type 0} (p : B → Bool) (f : A → B) (xs : List A) → prefix_len p (map f xs) ≡ prefix_len (λ x. p (f x)) xs
+prefix_len-map p f [] = refl
+prefix_len-map p f (x ∷ xs) = ap (λ n. cond (p (f x)) (1 + n) 0) (prefix_len-map p f xs)
 
--- a place counted from one further on
-mapped_more : (i : ℕ) (o : Option ℕ) → option_map (λ k. i + k) (option_map suc o) ≡ option_map (λ k. i + 1 + k) o
-mapped_more i None = refl
-mapped_more i (Some k) = ap Some (omega arith)
-
--- a name is found here or later
-found_either : (here : Bool) (later : Option ℕ) → is_some (cond here (Some 0) (option_map suc later)) ≡ (here || is_some later)
-found_either true later = refl
-found_either false None = refl
-found_either false (Some k) = refl
-
--- the place that is found is one of the name
-index_found : (names : List (List ℕ)) (name : List ℕ) (i : ℕ) → index_of names name ≡ Some i → (i < length names) × (get_or names i [] ≡ name)
-index_found [] name i e = let z : ◌≡◌ {A = ℕ} 0 1 = cc in absurd (omega arith)
-index_found (n ∷ ns) name i e =
-    elim (cases_Bool (bytes_eq n name)) [
-      | inl t ↦ (let here : i ≡ 0 = (let first = rw t at e in cc) in rw here (omega arith, (bytes_eq-Decides n name).0 t))
-      | inr f ↦ (let later = mapped_some (index_of ns name) i (rw f at e) in
-          let found = index_found ns name later.0 later.1 in
-          rw later.2 (omega arith, found.1))
-    ]
+-- the first name is where it is among what holds the names
+pub index_of-texts : (names : List (Bor (List ℕ))) (name : List ℕ) → position (λ r. bytes_eq r.now name) names ≡ index_of (texts names) name
+index_of-texts names name = rw (prefix_len-map, length-map)
 
 -- it lies within the names
 pub index_bound : (names : List (List ℕ)) (name : List ℕ) (i : ℕ) → index_of names name ≡ Some i → i < length names
-index_bound names name i e = (index_found names name i e).0
+index_bound names name i e = (position-Some (λ n. bytes_eq n name) names i [] e).0
 
 -- the name stands there
 pub index_at : (names : List (List ℕ)) (name : List ℕ) (i : ℕ) → index_of names name ≡ Some i → get_or names i [] ≡ name
-index_at names name i e = (index_found names name i e).1
+index_at names name i e = (bytes_eq-Decides (get_or names i []) name).0 (position-Some (λ n. bytes_eq n name) names i [] e).1
 
 -- a name is among those that have it
-pub among_decides : (names : List (List ℕ)) (name : List ℕ) → Decides (among names name) (Has names name)
+pub among_decides : (names : List (List ℕ)) (name : List ℕ) → Decides (among names name) (Contains names name)
 among_decides names name =
-    Decides-by_or (λ n. bytes_eq n name) (λ n. n ≡ name) (λ ns. among ns name) (λ n. bytes_eq-Decides n name) refl
-    (λ n ns. found_either (bytes_eq n name) (index_of ns name)) names
-
--- a search that has come to name i
-module _ (names : List (Bor (List ℕ))) (name : List ℕ) (i : ℕ) where
-  abbrev pub Sought : Type 0
-  Sought = option_map (λ k. i + k) (index_of (drop i (texts names)) name) ≡ index_of (texts names) name
-
-  -- name i comes next
-  index_next : (d : Bor (List ℕ)) → i < length names → Sought →
-      option_map (λ k. i + k) (index_of ((get_or names i d).now ∷ drop (i + 1) (texts names)) name) ≡ index_of (texts names) name
-  index_next d more so =
-      let left : List (List ℕ) → Option ℕ = λ ns. option_map (λ k. i + k) (index_of ns name) in
-      let this = get_or-map (λ r. r.now) names i d d.now more in
-      let next = at_drop_more left (texts names) i d.now (rw length-map more) in
-      ap (λ n. left (n ∷ drop (i + 1) (texts names))) (sym this) ∙ sym next ∙ so
-
-  -- it is the one
-  pub index_here : (d : Bor (List ℕ)) → i < length names → true ≡ bytes_eq (get_or names i d).now name → Sought → Some i ≡ index_of (texts names) name
-  index_here d more same so = let at : i ≡ i + 0 = omega arith in ap Some at ∙ rw (← same) at (index_next d more so)
-
-  -- it is another
-  pub index_later : (d : Bor (List ℕ)) → i < length names → false ≡ bytes_eq (get_or names i d).now name → Sought →
-      option_map (λ k. i + 1 + k) (index_of (drop (i + 1) (texts names)) name) ≡ index_of (texts names) name
-  index_later d more other so = sym (mapped_more i (index_of (drop (i + 1) (texts names)) name)) ∙ rw (← other) at (index_next d more so)
-
-  -- none is left
-  pub index_nowhere : length names ≤ i → Sought → None ≡ index_of (texts names) name
-  index_nowhere past so =
-      sym (at_drop_all (λ ns. option_map (λ k. i + k) (index_of ns name)) (texts names) i (rw length-map past)) ∙ so
+    let same : List ℕ → Bool = λ n. bytes_eq n name in
+    elim (cases_lt (position_or_len same names) (length names)) [
+      | inl found ↦ rw lt-ltb (
+        λ t. (position_or_len same names, found, (bytes_eq-Decides (get_or names (position_or_len same names) name) name).0 (passes_at_first same names name found)),
+        λ has. refl,
+      )
+      | inr past ↦ rw le-ltb (
+        λ t. absurd (false≢true t),
+        λ has. absurd (both_ways (same (get_or names has.0 name)) (fails_before_first same names has.0 name (omega arith)) ((bytes_eq-Decides (get_or names has.0 name) name).1 has.2)),
+      )
+    ]
 
 abbrev Fits : List ℕ → Type 0
-Fits n = (1 ≤ length n) × (length n ≤ 64) × AllByRecursion (λ b. within 32 126 b ≡ true) n
+Fits n = (1 ≤ length n) × (length n ≤ 64) × All (λ b. within 32 126 b ≡ true) n
 
 -- a name fits if its length and its bytes do
 fitting_decides : (n : List ℕ) → Decides (fitting n) (Fits n)
 fitting_decides n = (
   λ t.
-      let parts = and_parts (within 1 64 (length n)) (eqb (prefix_len printable n) (length n)) t in
-      let sizes = and_parts (leb 1 (length n)) (leb (length n) 64) parts.0 in
-      (leb-true 1 (length n) sizes.0, leb-true (length n) 64 sizes.1, all_pass printable n (eqb-true (prefix_len printable n) (length n) parts.1)),
-  λ f.
-      and_from (within 1 64 (length n)) (eqb (prefix_len printable n) (length n))
-      (and_from (leb 1 (length n)) (leb (length n) 64) (le-leb 1 (length n) f.0) (le-leb (length n) 64 f.1))
-      (eq-eqb (prefix_len printable n) (length n) (run_all printable n f.2)),
+      let tests = and_parts (within 1 64 (length n)) (list_all printable n) t in
+      let sizes = and_parts _ _ tests.0 in
+      (leb-true 1 (length n) sizes.0, leb-true (length n) 64 sizes.1, AllPass-from_list_all printable n tests.1),
+  λ f. and_from _ _ (and_from _ _ (le-leb 1 (length n) f.0) (le-leb (length n) 64 f.1)) (list_all-from_AllPass printable n f.2),
 )
 
 -- some names, and one behind them
 module _ (seen : List (List ℕ)) (n : List ℕ) where
   abbrev Joins : Type 0
-  Joins = Fits n × ((Has seen n → ⊥) × (length seen < 64))
+  Joins = Fits n × ((Contains seen n → ⊥) × (length seen < 64))
 
   -- the test says whether it joins them
   joins_decides : Decides (joins seen n) Joins
@@ -125,7 +86,7 @@ module _ (seen : List (List ℕ)) (n : List ℕ) where
             (λ new.
             let early : j < length seen = omega arith in
             let last = get_or_push seen n [] k (omega arith) in
-            join.1.0 (subst (Has seen) (sym (seen_at j early) ∙ same ∙ last) (has_get_or seen j [] early)))
+            join.1.0 (subst (Contains seen) (sym (seen_at j early) ∙ same ∙ last) (Contains-get_or seen j [] early)))
             (cases_lt k (length seen));
       }
 
@@ -134,8 +95,13 @@ module _ (seen : List (List ℕ)) (n : List ℕ) where
   askable_joins all =
       let long = length_push seen n in
       let last = get_or_push seen n [] (length seen) refl in (
-        subst Fits last (All-get_or Fits (seen ++ n ∷ []) (length seen) [] (omega arith) all.fit),
-        (λ has. all.once has.0 (length seen) has.1 (omega arith) (seen_at has.0 has.1 ∙ has.2 [] ∙ sym last), omega (arith, all.few)),
+        subst Fits last (all.fit (length seen) [] (omega arith)),
+        (
+          λ has.
+              let at = at_from_Contains seen n has in
+              all.once at.0 (length seen) at.1 (omega arith) (seen_at at.0 at.1 ∙ at.2 [] ∙ sym last),
+          omega (arith, all.few),
+        ),
       )
 
 -- the fault is the first name that does not join those before it
@@ -154,7 +120,7 @@ faults_after seen (n ∷ ns) before =
 
 -- a list of no names can be asked for
 none_askable : Askable []
-none_askable = record { few = omega arith; fit = tt; once = λ j k h l. absurd (omega arith) }
+none_askable = record { few = omega arith; fit = All-nil Fits; once = λ j k h l. absurd (omega arith) }
 
 -- what the fault of some names says of them
 pub faults_are : (names : List (List ℕ)) {fault : Option ℕ} → fault ≡ names_fault names → Faults names fault
@@ -164,35 +130,57 @@ faults_are names is = subst (Faults names) (sym is) (faults_after [] names none_
 pub accepted : (names : List (List ℕ)) → names_fault names ≡ None → Askable names
 accepted names e = faults_are names (sym e)
 
--- names whose fault does not stand before name i
-module _ (names : List (Bor (List ℕ))) (i : ℕ) where
-  abbrev pub Joined : Type 0
-  Joined = fault_after (take i (texts names)) (drop i (texts names)) ≡ names_fault (texts names)
+-- name i joins those before it, or not
+abbrev JoinsAt : List (List ℕ) → Bool → ℕ → Type 0
+JoinsAt names b i = joins (take i names) (get_or names i []) ≡ b
 
-  -- name i comes next
-  fault_next : (d : Bor (List ℕ)) → i < length names → Joined →
-      fault_after (texts (take i names)) ((get_or names i d).now ∷ drop (i + 1) (texts names)) ≡ names_fault (texts names)
-  fault_next d more so =
-      let this = get_or-map (λ r. r.now) names i d d.now more in
-      let next = at_drop_more (fault_after (texts (take i names))) (texts names) i d.now (rw length-map more) in
-      ap (λ n. fault_after (texts (take i names)) (n ∷ drop (i + 1) (texts names))) (sym this)
-      ∙ sym next
-      ∙ ap (λ seen. fault_after seen (drop i (texts names))) (sym (take-map (λ r. r.now) i names))
-      ∙ so
+-- the name behind those seen joins them, or not, as it does among them all
+joins_behind : (seen : List (List ℕ)) (n : List ℕ) (ns : List (List ℕ)) (b : Bool) → JoinsAt (seen ++ n ∷ ns) b (length seen) → joins seen n ≡ b
+joins_behind seen n ns b at_seen =
+    rw (take_at seen (n ∷ ns) (length seen) refl, get_or_at seen n ns [] (length seen) refl) at at_seen
 
-  -- it does not join them
-  pub fault_here : (d : Bor (List ℕ)) → i < length names → false ≡ joins (texts (take i names)) (get_or names i d).now → Joined → Some i ≡ names_fault (texts names)
-  fault_here d more stays so =
-      let at : length (texts (take i names)) ≡ i = length-map (take i names) (λ r. r.now) ∙ length-take-le i names (omega arith) in
-      ap Some (sym at) ∙ rw (← stays) at (fault_next d more so)
+-- the first name that does not join those before it, behind those seen, is the fault
+first_is_fault : (seen ns : List (List ℕ)) (i : ℕ) → length seen ≤ i → i < length (seen ++ ns) →
+    ((k : ℕ) → length seen ≤ k → k < i → JoinsAt (seen ++ ns) true k) → JoinsAt (seen ++ ns) false i → fault_after seen ns ≡ Some i
+first_is_fault seen [] i from past before here = let none = rw append-nil at past in absurd (omega arith)
+first_is_fault seen (n ∷ ns) i from past before here =
+    let one = append_assoc seen (n ∷ []) ns in
+    let long = length_push seen n in
+    elim (cases_lt (length seen) i) [
+      | inl later ↦
+          let joined = joins_behind seen n ns true (before (length seen) (omega arith) later) in
+          rw joined (first_is_fault (seen ++ n ∷ []) ns i (omega arith) (rw one past) (λ k f l. rw one (before k (omega arith) l)) (rw one here))
+      | inr now ↦
+          let at_seen : i ≡ length seen = omega arith in
+          let stays = joins_behind seen n ns false (subst (JoinsAt (seen ++ n ∷ ns) false) at_seen here) in
+          rw stays (ap Some (sym at_seen))
+    ]
 
-  -- it does
-  pub fault_later : (d : Bor (List ℕ)) → i < length names → true ≡ joins (texts (take i names)) (get_or names i d).now → Joined →
-      fault_after (take (i + 1) (texts names)) (drop (i + 1) (texts names)) ≡ names_fault (texts names)
-  fault_later d more join so =
-      ap (λ seen. fault_after seen (drop (i + 1) (texts names))) (take-map (λ r. r.now) (i + 1) names ∙ map_more (λ r. r.now) names i d more)
-      ∙ rw (← join) at (fault_next d more so)
+-- where each joins those before it, there is none
+none_is_fault : (seen ns : List (List ℕ)) → ((k : ℕ) → length seen ≤ k → k < length (seen ++ ns) → JoinsAt (seen ++ ns) true k) → fault_after seen ns ≡ None
+none_is_fault seen [] each = refl
+none_is_fault seen (n ∷ ns) each =
+    let one = append_assoc seen (n ∷ []) ns in
+    let long = length_push seen n in
+    let joined = joins_behind seen n ns true (each (length seen) (omega arith) (rw length-append (omega arith))) in
+    rw joined (none_is_fault (seen ++ n ∷ []) ns (λ k f l. rw one (each k (omega arith) (rw one at l))))
 
-  -- none is left
-  pub fault_nowhere : length names ≤ i → Joined → None ≡ names_fault (texts names)
-  fault_nowhere past so = sym (at_drop_all (fault_after (take i (texts names))) (texts names) i (rw length-map past)) ∙ so
+module _ (names : List (Bor (List ℕ))) where
+  -- the same of name i as the caller lends it
+  abbrev pub LentJoins : Bool → ℕ → Type 0
+  LentJoins b i = joins (texts (take i names)) (get_or names i (record { ref_ptr = (0, 0); now = [] })).now ≡ b
+
+  -- it joins as a text does
+  as_texts : (b : Bool) (i : ℕ) → i < length names → LentJoins b i → JoinsAt (texts names) b i
+  as_texts b i more lent = rw (take-map, get_or-map (λ r. r.now) names i (record { ref_ptr = (0, 0); now = [] }) [] more) lent
+
+  -- what the search found is the fault
+  pub fault_is : (r : Option ℕ) → MatchOption r ((k : ℕ) → 0 ≤ k → k < length names → LentJoins true k)
+      (λ i. (0 ≤ i) × (i < length names) × LentJoins false i × ((k : ℕ) → 0 ≤ k → k < i → LentJoins true k))
+      → r ≡ names_fault (texts names)
+  fault_is None each =
+      sym (none_is_fault [] (texts names) (λ k f l. let more = rw length-map at l in as_texts true k more (each k f more)))
+  fault_is (Some i) first =
+      sym
+      (first_is_fault [] (texts names) i first.0 (rw length-map first.1)
+      (λ k f l. as_texts true k (omega arith) (first.3 k f l)) (as_texts false i first.1 first.2))

@@ -1,7 +1,6 @@
 -- The names that are asked for.
-use Rattle.std.specs.Prelude.{◌≡◌, ℕ, suc, ◌+◌, ◌<◌, ◌≤◌, Bool, true, cond, not, ◌&&◌, List, [], ◌∷◌, ◌++◌, length, take, is_some, Some, None, Option, ◌==◌, ◌≢◌, nat_lt, slice_index_or}
-use Rattle.std.specs.Option.{option_map}
-use Rattle.std.specs.List.{prefix_len, AllByRecursion}
+use Rattle.std.specs.Prelude.{◌≡◌, ℕ, ◌+◌, ◌<◌, ◌≤◌, Bool, true, cond, not, ◌&&◌, List, [], ◌∷◌, ◌++◌, length, take, is_some, Some, None, Option, ◌≢◌, nat_lt, slice_index_or}
+use Rattle.std.specs.List.{list_all, position, All}
 use Rattle.std.specs.Str.{bytes_eq}
 use Rattle.text.specs.Bytes.{within}
 
@@ -11,12 +10,11 @@ printable b = within 32 126 b
 
 -- 1 to 64 bytes, each from 32 to 126
 abbrev pub fitting : List ℕ → Bool
-fitting name = within 1 64 (length name) && prefix_len printable name == length name
+fitting name = within 1 64 (length name) && list_all printable name
 
 -- the first place of a name among some
 abbrev pub index_of : List (List ℕ) → List ℕ → Option ℕ
-index_of [] name = None
-index_of (n ∷ ns) name = cond (bytes_eq n name) (Some 0) (option_map suc (index_of ns name))
+index_of names name = position (λ n. bytes_eq n name) names
 
 -- a name is one of some
 abbrev pub among : List (List ℕ) → List ℕ → Bool
@@ -37,7 +35,7 @@ names_fault names = fault_after [] names
 -- names that can be asked for together: at most 64, each of 1 to 64 bytes from 32 to 126, none twice
 pub record Askable (names : List (List ℕ)) : Type 0 where
   pub few : length names ≤ 64
-  pub fit : AllByRecursion (λ n. (1 ≤ length n) × (length n ≤ 64) × AllByRecursion (λ b. within 32 126 b ≡ true) n) names
+  pub fit : All (λ n. (1 ≤ length n) × (length n ≤ 64) × All (λ b. within 32 126 b ≡ true) n) names
   pub once : (j k : ℕ) → j < k → k < length names → slice_index_or names j [] ≢ slice_index_or names k []
 
 -- with no fault all can be asked for together; else those before the fault can, and with it they cannot

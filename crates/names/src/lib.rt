@@ -2,14 +2,14 @@
 #![tactic(auto)]
 
 ghost use Rattle.std.specs.Prelude.{◌≡◌, ◌<◌, map, length, IfSome};
+ghost use Rattle.std.specs.List.{list_all};
 ghost use Rattle.std.specs.Str.{bytes_eq};
 ghost use Rattle.text.specs.Bytes.{lowered as small};
 ghost use Rattle.text.specs.Lines.{texts};
 ghost use Rattle.rules.specs.Meanings.{looked_up};
 ghost use Rattle.names.specs.Asked.{fitting, index_of, joins, names_fault, printable, Faults};
 
-use text::bytes::{ByteClass, lower_byte};
-use text::runs::run_from;
+use text::bytes::lower_byte;
 
 // The most names that can be asked for together.
 const NAMES_LIMIT: usize = 64;
@@ -17,37 +17,26 @@ const NAMES_LIMIT: usize = 64;
 // The longest name that can be asked for.
 const NAME_LIMIT: usize = 64;
 
-// A byte that a name may have.
-struct Printable;
-
-impl ByteClass for Printable {
-    ghost member = { printable };
-
-    fn has(b: u8) -> bool {
-        matches!(b, b' '..=b'~')
-    }
+// Has the name only bytes that a name may have?
+fn is_printable(name: &[u8]) -> bool
+    ensures { result ≡ list_all printable name.now }
+{
+    name.iter().all(|b| matches!(b, b' '..=b'~'))
 }
 
 // Can the name be asked for at all?
 fn fits(name: &[u8]) -> bool
     ensures { result ≡ fitting name.now }
 {
-    matches!(name.len(), 1..=NAME_LIMIT) && run_from::<Printable>(name, 0) == name.len()
+    matches!(name.len(), 1..=NAME_LIMIT) && is_printable(name)
 }
 
 // Is `name`, lowered, the asked one?
 fn is_lowered(asked: &[u8], name: &[u8]) -> bool
     ensures { result ≡ bytes_eq asked.now (map small name.now) }
 {
-    if asked.len() != name.len() {
-        return false;
-    }
-    for (i, b) in asked.iter().enumerate() {
-        if *b != lower_byte(name[i]) {
-            return false;
-        }
-    }
-    true
+    // By `zip`: the proof of `eq` between two chains does not close.
+    asked.len() == name.len() && asked.iter().zip(name).all(|(a, b)| *a == lower_byte(*b))
 }
 
 // Is `name`, lowered or not, the asked one?
@@ -66,12 +55,9 @@ pub fn find(names: &[&[u8]], name: &[u8], lowered: bool) -> Option<usize>
     ensures value { result ≡ index_of (texts names.now) (looked_up lowered name.now) }
     ensures within { IfSome result (λ i. i < length names.now) }
 {
-    for (i, asked) in names.iter().enumerate() {
-        if is_called(asked, name, lowered) {
-            return Some(i);
-        }
-    }
-    None
+    names
+        .iter()
+        .position(|asked| is_called(asked, name, lowered))
 }
 
 // Can `name` be asked for beside those before it?
@@ -86,10 +72,5 @@ pub fn names_fault(names: &[&[u8]]) -> Option<usize>
     ensures value { result ≡ names_fault (texts names.now) }
     ensures faults { Faults (texts names.now) result }
 {
-    for (i, name) in names.iter().enumerate() {
-        if !can_join(&names[..i], name) {
-            return Some(i);
-        }
-    }
-    None
+    (0..names.len()).find(|&i| !can_join(&names[..i], names[i]))
 }

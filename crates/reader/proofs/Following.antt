@@ -1,5 +1,5 @@
--- A reader follows the calls it is given: its records and its shelf hold what their stretches say.
-use Rattle.std.proofs.Common.{◌≡◌, ℕ, zero, suc, ◌*◌, ◌<◌, ◌≤◌, Bool, true, false, cond, not, ◌&&◌, ltb, List, [], ◌∷◌, ◌++◌, length, get_or, replicate, Some, None, Ok, Err, Option, sym, refl, ap, ◌∙◌, subst, inl, inr, Bor}
+-- A reader follows the calls it is given: what it keeps and its shelf hold what their stretches say.
+use Rattle.std.proofs.Common.{◌≡◌, ℕ, zero, suc, ◌*◌, ◌<◌, ◌≤◌, Bool, true, false, cond, not, ◌&&◌, ltb, List, [], ◌∷◌, ◌++◌, length, get_or, drop, replicate, Some, None, Ok, Err, Option, sym, refl, ap, ◌∙◌, subst, inl, inr, Bor}
 use Rattle.std.proofs.lemmas.List.{append-nil}
 use Rattle.std.proofs.lemmas.Bool.{cases_Bool, false≢true, ltb-false, ltb-true, true≢false}
 use Rattle.refusal.specs.declared.Refusal.TheVariants.{AlreadyClosed, NoText, ShortShelf, StillReading}
@@ -7,102 +7,85 @@ use Rattle.text.specs.Lines.{fault_of}
 use Rattle.rules.specs.declared.meaning.Place.{Place}
 use Rattle.reader.specs.Calls.{Turn, called}
 use Rattle.reader.specs.Runs.{handed_to, of_stretch, replied, says_body, says_line, says, shelf_past, target_of, targets_past, wrote}
-use Rattle.reader.specs.Steps.{Given, Setup, Step, absent, closed_from, fresh, given, handed_if, held_at, record_at, refuses, short, stepped, unless_bad, withheld}
+use Rattle.reader.specs.Steps.{Given, Setup, Step, fresh, given, handed, handed_of, held_at, is_closed, kept_at, refuses, short, stepped, unless_bad, withheld}
 use Rattle.reader.specs.Stretches.{Stretch, goes_by, heard, in_force, last_stretch, on_course, readable, running, sound_since, starts, text_of, unharmed}
 use Rattle.reader.specs.declared.calls.Call.{Call}
 use Rattle.reader.specs.declared.calls.Call.TheVariants.{Line, Close, Ask}
 use Rattle.reader.specs.declared.calls.Reply.TheVariants.{Answered, Body, Closed}
+use Rattle.reader.specs.declared.state.Kept.{Kept}
 use Rattle.reader.specs.declared.state.Kept.TheVariants.{Absent, Whole, Torn}
-use Rattle.reader.specs.declared.state.NameRecord.{NameRecord}
 use Rattle.reader.specs.declared.state.State.{State}
 use Rattle.reader.proofs.Boundaries.{heard_append}
 use Rattle.reader.proofs.Histories.{and_false, and_true, asked_in, current_stretch, every_push, heard_all, heard_shut, look, none_some, others_stay, some_or, stretch_few, text_in}
 use Rattle.reader.proofs.Moving.{Moves, Stands, idle_moves, line_moves, text, who}
-use Rattle.reader.proofs.Standing.{stays_as}
+use Rattle.reader.proofs.Standing.{goes_open, stays_as}
 use Rattle.reader.proofs.Stepping.{closed_first, then_read, too_short}
 
 -- absent names are absent
-none_kept : (n i : ℕ) → (get_or {A = NameRecord} (replicate n absent) i absent).kept ≡ Absent
+none_kept : (n i : ℕ) → get_or (replicate n Absent) i Absent ≡ Absent
 none_kept zero i = refl
 none_kept (suc n) zero = refl
 none_kept (suc n) (suc i) = none_kept n i
 
--- a closing leaves the records
-closed_records : (s : State) → (closed_from s).records ≡ s.records
-closed_records s = elim (cases_Bool s.closed) [ inl t ↦ rw t | inr f ↦ rw f ]
-
--- and closes
-closed_closes : (s : State) → (closed_from s).closed ≡ true
-closed_closes s = elim (cases_Bool s.closed) [ inl t ↦ rw t | inr f ↦ rw f ]
-
 module _ (q : Setup) where
-  -- what a name's record and share hold of its last stretch
-  abbrev Holds : ℕ → NameRecord → List ℕ → Option Stretch → Type 0
-  Holds i r shelf None = r.kept ≡ Absent
-  Holds i r shelf (Some st) =
-      (r.kept ≡ cond (unharmed q st) Whole Torn)
-      × (unharmed q st ≡ true → (r.used ≡ length (text_of q st)) × (length (text_of q st) ≤ q.share) × (held_at q.share i (length (text_of q st)) shelf ≡ text_of q st))
+  -- what is kept of a name, and its share, hold its last stretch
+  abbrev Holds : ℕ → Kept → List ℕ → Option Stretch → Type 0
+  Holds i k shelf None = k ≡ Absent
+  Holds i k shelf (Some st) =
+      (k ≡ cond (unharmed q st) (Whole (length (text_of q st))) Torn)
+      × (unharmed q st ≡ true → (length (text_of q st) ≤ q.share) × (held_at q.share i (length (text_of q st)) shelf ≡ text_of q st))
 
   -- and all of them
-  abbrev Records : List Call → List NameRecord → List ℕ → Type 0
-  Records h rs shelf = (i : ℕ) → i < length q.names → Holds i (get_or rs i absent) shelf (last_stretch q i h)
+  abbrev AllHold : List Call → List Kept → List ℕ → Type 0
+  AllHold h ks shelf = (i : ℕ) → i < length q.names → Holds i (get_or ks i Absent) shelf (last_stretch q i h)
 
-  -- what is handed out of a record is what is said of the stretch
-  body_said : (len : ℕ) (target : List ℕ) (i : ℕ) (r : NameRecord) (shelf : List ℕ) (o : Option Stretch) → Holds i r shelf o →
-      handed_if target r.kept (held_at q.share i r.used shelf) ≡ of_stretch q len target o
-  body_said len target i r shelf None h = ap (λ k. handed_if target k (held_at q.share i r.used shelf)) h
-  body_said len target i r shelf (Some st) h =
-      ap (λ k. handed_if target k (held_at q.share i r.used shelf)) h.0
-      ∙ elim (cases_Bool (unharmed q st)) [
-        | inl t ↦ (let g = h.1 t in rw t (ap (handed_if target Whole) (ap (λ n. held_at q.share i n shelf) g.0 ∙ g.2)))
-        | inr t ↦ rw t
-      ]
+  -- what is handed out of what is kept is what is said of the stretch
+  body_said : (len : ℕ) (target : List ℕ) (i : ℕ) (k : Kept) (shelf : List ℕ) (o : Option Stretch) → Holds i k shelf o →
+      handed_of target k (drop (i * q.share) shelf) ≡ of_stretch q len target o
+  body_said len target i k shelf None h = ap (λ x. handed_of target x (drop (i * q.share) shelf)) h
+  body_said len target i k shelf (Some st) h =
+      ap (λ x. handed_of target x (drop (i * q.share) shelf)) h.0
+      ∙ elim (cases_Bool (unharmed q st)) [ inl t ↦ rw t (ap (handed target) (h.1 t).1) | inr t ↦ rw t ]
 
-  -- the records of the calls before go on to hold when a call moves the reader
-  records_follow : (h : List Call) (c : Call) (s : State) (shelf : List ℕ) (p : Step) → Moves q h c s shelf p → Records h s.records shelf →
-      Records (h ++ (c ∷ [])) p.state.records p.shelf
-  records_follow h c s shelf p m old i l =
+  -- what is kept of the calls before goes on to hold when a call moves the reader
+  all_follow : (h : List Call) (c : Call) (s : State) (shelf : List ℕ) (p : Step) → Moves q h c s shelf p → AllHold h s.kept shelf →
+      AllHold (h ++ (c ∷ [])) p.state.kept p.shelf
+  all_follow h c s shelf p m old i l =
       let all = h ++ (c ∷ []) in
-      let r : NameRecord = record_at p.state i in
+      let k = kept_at p.state i in
       elim (some_or (who q all) i) [
         | inl w ↦
             elim (look (in_force q all)) [
               | inl n ↦ absurd (none_some i (ap (asked_in q) (sym n) ∙ w))
               | inr st ↦
                   (let e = current_stretch q i all st.0 st.1 (ap (asked_in q) (sym st.1) ∙ w) in
-                  let k : on_course q all ≡ unharmed q st.0 = ap (sound_since q all) st.1 in
+                  let well : on_course q all ≡ unharmed q st.0 = ap (sound_since q all) st.1 in
                   let x : text q all ≡ text_of q st.0 = ap (text_in q) st.1 in
-                  subst (Holds i r p.shelf) (sym e) (
-                    m.standing.kept i w ∙ ap (λ b. cond b Whole Torn) k,
+                  subst (Holds i k p.shelf) (sym e) (
+                    m.standing.kept i w ∙ ap (λ b. cond b (Whole (length (text q all))) Torn) well ∙ ap (λ z. cond (unharmed q st.0) (Whole (length z)) Torn) x,
                     λ t. (
-                      m.standing.used i (k ∙ t) w ∙ ap length x,
-                      subst (λ z. length z ≤ q.share) x (m.standing.room i (k ∙ t) w),
-                      subst (λ z. held_at q.share i (length z) p.shelf ≡ z) x (m.standing.bytes i (k ∙ t) w),
+                      subst (λ z. length z ≤ q.share) x (m.standing.room i (well ∙ t) w),
+                      subst (λ z. held_at q.share i (length z) p.shelf ≡ z) x (m.standing.bytes i (well ∙ t) w),
                     ),
                   ))
             ]
-        | inr n ↦ subst (Holds i r p.shelf) (sym (others_stay q i h c n)) (kept_on n (last_stretch q i h) (old i l))
+        | inr n ↦ subst (Holds i k p.shelf) (sym (others_stay q i h c n)) (kept_on n (last_stretch q i h) (old i l))
       ]
     where
-      -- the record and the share of a name that is not open go on to hold its last stretch
-      kept_on : (who q (h ++ (c ∷ [])) ≡ Some i → ⊥) → (o : Option Stretch) → Holds i (record_at s i) shelf o → Holds i (record_at p.state i) p.shelf o
-      kept_on n None old = ap (λ (r : NameRecord). r.kept) (m.others i n) ∙ old
+      -- what is kept of a name that is not open, and its share, go on to hold its last stretch
+      kept_on : (who q (h ++ (c ∷ [])) ≡ Some i → ⊥) → (o : Option Stretch) → Holds i (kept_at s i) shelf o → Holds i (kept_at p.state i) p.shelf o
+      kept_on n None old = m.others i n ∙ old
       kept_on n (Some st) old = (
-        ap (λ (r : NameRecord). r.kept) (m.others i n) ∙ old.0,
-        λ t.
-            let o = old.1 t in (
-              ap (λ (r : NameRecord). r.used) (m.others i n) ∙ o.0,
-              o.1,
-              m.beside i (length (text_of q st)) n o.1 ∙ o.2,
-            ),
+        m.others i n ∙ old.0,
+        λ t. let o = old.1 t in (o.0, m.beside i (length (text_of q st)) n o.0 ∙ o.1),
       )
 
   -- what holds of a reader and its shelf after the calls h
   pub record Follows (len : ℕ) (h : List Call) (s : State) (shelf : List ℕ) : Type 0 where
-    pub many : length s.records ≡ 64
-    pub closed : s.closed ≡ not (running h)
+    pub many : length s.kept ≡ 64
+    pub closed : is_closed s.course ≡ not (running h)
     pub stands : running h ≡ true → short q len ≡ false → Stands q h s shelf
-    pub records : short q len ≡ false → Records (heard h) s.records shelf
+    pub hold : short q len ≡ false → AllHold (heard h) s.kept shelf
 
   -- a new reader follows no calls
   pub new_follows : (len : ℕ) (shelf : List ℕ) → Follows len [] fresh shelf
@@ -111,14 +94,12 @@ module _ (q : Setup) where
         many = refl;
         closed = refl;
         stands = λ r l. record {
-          lost = refl;
-          current = refl;
+          course = refl;
           kept = λ i x. absurd (none_some i x);
-          used = λ i t x. absurd (none_some i x);
           room = λ i t x. absurd (none_some i x);
           bytes = λ i t x. absurd (none_some i x);
         };
-        records = λ l i b. none_kept 64 i;
+        hold = λ l i b. none_kept 64 i;
       }
 
   -- a call that goes by keeps the list running, or closed
@@ -133,11 +114,11 @@ module _ (q : Setup) where
       let e = heard_append h (c ∷ []) r ∙ ap (λ x. h ++ x) one in
       record {
         many = m.many ∙ f.many;
-        closed = m.closed ∙ f.closed ∙ ap not (sym (runs_on h c g));
+        closed = ap is_closed m.standing.course ∙ goes_open (on_course q (h ++ (c ∷ []))) (who q (h ++ (c ∷ []))) ∙ ap not (sym (runs_on h c g ∙ r));
         stands = λ x y. m.standing;
-        records = λ l.
-            subst (λ (k : List Call). Records k p.state.records p.shelf) (sym e)
-            (records_follow h c s shelf p m (subst (λ (k : List Call). Records k s.records shelf) (heard_all h r) (f.records l)));
+        hold = λ l.
+            subst (λ (k : List Call). AllHold k p.state.kept p.shelf) (sym e)
+            (all_follow h c s shelf p m (subst (λ (k : List Call). AllHold k s.kept shelf) (heard_all h r) (f.hold l)));
       }
 
   -- a call that goes by a closed reader, or over a short shelf, changes nothing
@@ -148,10 +129,10 @@ module _ (q : Setup) where
         many = f.many;
         closed = f.closed ∙ ap not (sym (runs_on h c g));
         stands = λ x y. absurd (idle (sym (runs_on h c g) ∙ x, y));
-        records = λ l.
+        hold = λ l.
             elim (cases_Bool (running h)) [
               | inl r ↦ absurd (idle (r, l))
-              | inr r ↦ subst (λ (k : List Call). Records k s.records shelf) (sym (heard_shut h (c ∷ []) r)) (f.records l)
+              | inr r ↦ subst (λ (k : List Call). AllHold k s.kept shelf) (sym (heard_shut h (c ∷ []) r)) (f.hold l)
             ];
       }
 
@@ -177,12 +158,11 @@ module _ (q : Setup) where
         shelf_bytes = refl;
         target_bytes = refl;
         follows = record {
-          many = ap length (closed_records s) ∙ f.many;
-          closed = closed_closes s ∙ ap not (sym ended);
+          many = f.many;
+          closed = ap not (sym ended);
           stands = λ x y. absurd (true≢false (sym x ∙ ended));
-          records = λ l.
-              subst (λ (k : List Call). Records k (closed_from s).records shelf) (sym same)
-              (subst (λ rs. Records (heard h) rs shelf) (sym (closed_records s)) (f.records l));
+          hold = λ l.
+              subst (λ (k : List Call). AllHold k s.kept shelf) (sym same) (f.hold l);
         };
       }
 
@@ -194,9 +174,9 @@ module _ (q : Setup) where
       ∙ ap (λ n. cond (not (running h)) (asked_of n) (withheld target StillReading)) long
       ∙ by (running h) (short q len) refl
     where
-      -- what the records say of the name
+      -- what is kept says of the name
       kept : Given
-      kept = cond (ltb i (length q.names)) (handed_if target (record_at s i).kept (held_at q.share i (record_at s i).used shelf)) (withheld target NoText)
+      kept = cond (ltb i (length q.names)) (handed_of target (kept_at s i) (drop (i * q.share) shelf)) (withheld target NoText)
 
       -- that, over a shelf of so many bytes
       asked_of : ℕ → Given
@@ -206,7 +186,7 @@ module _ (q : Setup) where
       kept_said : short q len ≡ false → kept ≡ of_stretch q len target (last_stretch q i (heard h))
       kept_said l =
           elim (cases_Bool (ltb i (length q.names))) [
-            | inl v ↦ rw v (body_said len target i (record_at s i) shelf (last_stretch q i (heard h)) (f.records l i (ltb-true i (length q.names) v)))
+            | inl v ↦ rw v (body_said len target i (kept_at s i) shelf (last_stretch q i (heard h)) (f.hold l i (ltb-true i (length q.names) v)))
             | inr v ↦ rw (v, stretch_few q i (heard h) (ltb-false i (length q.names) v))
           ]
 

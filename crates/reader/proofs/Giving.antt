@@ -1,20 +1,16 @@
 -- What a question for a body is given.
-use Rattle.std.proofs.Common.{◌≡◌, ℕ, ◌+◌, ◌-◌, ◌<◌, ◌≤◌, min, Bool, true, false, cond, ltb, List, ◌++◌, length, take, drop, Some, None, Ok, Option, sym, ap, ◌∙◌, zero-add, arith, Bor}
+use Rattle.std.proofs.Common.{◌≡◌, ℕ, ◌+◌, ◌-◌, ◌<◌, ◌≤◌, min, Bool, true, false, cond, List, ◌++◌, length, take, drop, Some, None, Ok, Option, sym, ap, ◌∙◌, zero-add, arith}
 use borrow.Rule.Slice.PartMut.{put_mid}
 use Rattle.std.proofs.lemmas.List.{drop-drop, length-drop, length-take-le, take_at}
-use Rattle.std.proofs.lemmas.Bool.{le-leb, le-ltb, lt-leb, lt-ltb}
-use Rattle.refusal.specs.declared.Refusal.TheVariants.{NoText, ShortShelf, ShortTarget}
+use Rattle.std.proofs.lemmas.Bool.{le-leb, lt-leb}
+use Rattle.refusal.specs.declared.Refusal.TheVariants.{ShortTarget}
 use Rattle.text.specs.Dedents.{dedented}
-use Rattle.text.specs.Lines.{texts}
+use Rattle.text.specs.Lines.{put}
 use Rattle.text.specs.Trims.{trimmed}
 use Rattle.text.proofs.Ends.{drop_min, take_min}
 use Rattle.rules.specs.declared.meaning.Place.{Place}
 use Rattle.reader.specs.Runs.{clipped}
-use Rattle.reader.specs.Shelves.{put}
-use Rattle.reader.specs.Steps.{Setup, body_of, given, handed, handed_if, held_at, record_at, short, withheld}
-use Rattle.reader.specs.declared.state.Kept.{Kept}
-use Rattle.reader.specs.declared.state.State.{State}
-use Rattle.reader.proofs.Stepping.{count_names}
+use Rattle.reader.specs.Steps.{body_of, handed, withheld}
 
 -- a text that was written where there was room stands at the front, and its length was given
 written_at : (room : Bool) (len : ℕ) (r : Option ℕ) (dedent out before : List ℕ) → r ≡ cond room (Some (length dedent)) None → r ≡ Some len →
@@ -41,29 +37,6 @@ module _ (text body : List ℕ) where
     handed_out h front same =
         let z = zero-add (length (body_of text)) in
         rw (le-leb (length (body_of text)) (length target) (omega (arith, ap length is)), same, is, z)
-
--- an index among the names
-pub is_asked : (names : List (Bor (List ℕ))) (i : ℕ) → i < length names → ltb i (length (texts names)) ≡ true
-is_asked names i h = rw (count_names names) (lt-ltb i (length names) h)
-
--- and one beyond them
-pub not_asked : (names : List (Bor (List ℕ))) (i : ℕ) → length names ≤ i → ltb i (length (texts names)) ≡ false
-not_asked names i h = rw (count_names names) (le-ltb i (length names) h)
-
-module _ (q : Setup) (s : State) (shelf : List ℕ) (i : ℕ) (target : List ℕ) (shut : s.closed ≡ true) where
-  -- a short shelf comes first
-  pub short_first : short q (length shelf) ≡ true → withheld target ShortShelf ≡ given q s shelf i target
-  short_first e = rw (shut, e)
-
-  module _ (long : short q (length shelf) ≡ false) where
-    -- then a name that was not asked for
-    pub none_such : ltb i (length q.names) ≡ false → withheld target NoText ≡ given q s shelf i target
-    none_such e = rw (shut, long, e)
-
-    -- then what is kept of it
-    pub by_record : ltb i (length q.names) ≡ true → (k : Kept) → (record_at s i).kept ≡ k →
-        handed_if target k (held_at q.share i (record_at s i).used shelf) ≡ given q s shelf i target
-    by_record e k is = rw (shut, long, e) (ap (λ x. handed_if target x (held_at q.share i (record_at s i).used shelf)) (sym is))
 
 -- a part of the targets, as far as there are any
 module _ (targets : List ℕ) (place part : Place) (is : part ≡ clipped place (length targets)) where

@@ -130,12 +130,6 @@ module _ (q : Setup) where
   size_of : (c : Call) (s : Stretch) (k : ℕ) → length (adds q c) ≡ k → length (text_of q (more c s)) ≡ length (text_of q s) + k
   size_of c s k e = let g = ap length (text_more c s) ∙ length-append (text_of q s) (adds q c) in omega arith
 
-  -- the text of a stretch that opens an asked name grows by what the call adds
-  pub size_more : (c : Call) (t : Option Stretch) (k : ℕ) → length (adds q c) ≡ k → (i : ℕ) → asked_in t ≡ Some i →
-      length (text_in t) + k ≡ length (text_in (option_map (more c) t))
-  size_more c None k e i x = absurd (none_some i x)
-  size_more c (Some s) k e i x = sym (size_of c s k e)
-
   -- it fits if it fits with what the call adds
   pub fits_more : (c : Call) (t : Option Stretch) (k : ℕ) → length (adds q c) ≡ k →
       fits q (asked_in t) (length (text_in (option_map (more c) t))) ≡ fits q (asked_in t) (length (text_in t) + k)

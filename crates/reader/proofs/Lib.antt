@@ -7,6 +7,5 @@ pub mod Moving
 pub mod Running
 pub mod Shares
 pub mod Standing
-pub mod Starting
 pub mod Stepping
 pub mod Stores

@@ -7,13 +7,13 @@ use Rattle.std.proofs.lemmas.Bool.{and_left, and_parts, cases_Bool, false≢true
 use Rattle.refusal.specs.declared.Refusal.{Refusal}
 use Rattle.refusal.specs.declared.Refusal.TheVariants.{AlreadyClosed, ShortShelf, StillReading, TornText}
 use Rattle.text.specs.Bytes.{plain}
-use Rattle.text.specs.Lines.{fault_of}
+use Rattle.text.specs.Lines.{fault_of, fed}
 use Rattle.rules.specs.Laws.{Inside}
 use Rattle.rules.specs.declared.meaning.Meaning.{Meaning}
 use Rattle.rules.specs.declared.meaning.Meaning.TheVariants.{Opens, Continues, Stray}
 use Rattle.reader.specs.Laws.{BodiesWhole, LostLeaveShelf, told, whole_or}
 use Rattle.reader.specs.Runs.{had_refusal, heard_as, kept_for, kept_in, loses, lossy, of_stretch, ran, replied, says, says_line, shelf_past, unless_fault, wrote}
-use Rattle.reader.specs.Shelves.{fed, starting}
+use Rattle.reader.specs.Shelves.{starting}
 use Rattle.reader.specs.Steps.{Setup, body_of, handed, short, withheld}
 use Rattle.reader.specs.Stretches.{Stretch, adds, asked, begins_for, boundary, every, fits, goes_by, heard, in_force, is_name, last_stretch, on_course, or_else, readable, running, starts, text_of, unharmed, up_to_turn}
 use Rattle.reader.specs.declared.answer.Answer.{Answer}

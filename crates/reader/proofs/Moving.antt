@@ -1,15 +1,15 @@
 -- How a line moves a reader that stands to the calls before it.
-use Rattle.std.proofs.Common.{◌≡◌, ℕ, ◌+◌, ◌*◌, ◌≤◌, true, false, cond, not, ◌&&◌, List, [], ◌∷◌, ◌++◌, length, Some, None, Ok, Option, Result, sym, refl, ap, ◌∙◌, subst, inl, inr, arith, Bor}
+use Rattle.std.proofs.Common.{◌≡◌, ℕ, ◌+◌, ◌*◌, ◌≤◌, true, false, cond, ◌&&◌, List, [], ◌∷◌, ◌++◌, length, Some, None, Ok, Option, Result, sym, refl, ap, ◌∙◌, subst, inl, inr, arith, Bor}
 use Rattle.std.specs.Option.{option_map}
 use Rattle.std.proofs.lemmas.List.{append-nil}
 use Rattle.std.proofs.lemmas.Bool.{cases_Bool}
 use Rattle.refusal.specs.declared.Refusal.{Refusal}
 use Rattle.refusal.specs.declared.Refusal.TheVariants.{BadLine}
-use Rattle.text.specs.Lines.{fault_of}
+use Rattle.text.specs.Lines.{fault_of, fed}
 use Rattle.rules.specs.declared.meaning.Meaning.{Meaning}
 use Rattle.rules.specs.declared.meaning.Meaning.TheVariants.{Opens, Continues, Stray}
 use Rattle.reader.specs.Runs.{heard_as, kept_for, kept_in, text_end, unless_fault, wrote}
-use Rattle.reader.specs.Shelves.{fed, opening_text, starting}
+use Rattle.reader.specs.Shelves.{opening_text, starting}
 use Rattle.reader.specs.Steps.{Setup, Step, asked_by, decided, goes_on, opens, refuses, strayed, strays, unless_bad}
 use Rattle.reader.specs.Stretches.{Stretch, adds, asked, boundary, fits, in_force, on_course, readable, starts}
 use Rattle.reader.specs.declared.answer.Answer.{Answer}
@@ -18,7 +18,7 @@ use Rattle.reader.specs.declared.calls.Call.{Call}
 use Rattle.reader.specs.declared.calls.Call.TheVariants.{Line}
 use Rattle.reader.specs.declared.state.State.{State}
 use Rattle.reader.proofs.Histories.{and_false, asked_few, asked_more, asked_in, course_at, course_idle, course_past, fits_any, in_force_at, in_force_past, more, none_some, text_in, text_more}
-use Rattle.reader.proofs.Standing.{After, Has, Standing, after_same, goes_as, goes_wrote, loses_as, opens_as, opens_wrote, strays_as, strays_wrote}
+use Rattle.reader.proofs.Standing.{After, Has, Standing, after_same, course_of, goes_as, goes_wrote, loses_as, opens_as, opens_wrote, strays_as, strays_wrote}
 use Rattle.reader.proofs.Stepping.{part_ends}
 
 module _ (q : Setup) where
@@ -78,7 +78,7 @@ module _ (q : Setup) where
 
   module _ (few : length q.names ≤ 64) (least : 1001 ≤ q.share) (starts_fit : (c : Call) → readable c ≡ true → length (starts q c) ≤ q.share) (len : ℕ)
       (h : List Call) (l : Bor (List ℕ)) (s : State) (shelf : List ℕ)
-      (many : length s.records ≡ 64) (long : length q.names * q.share ≤ length shelf) (st : Stands h s shelf) where
+      (many : length s.kept ≡ 64) (long : length q.names * q.share ≤ length shelf) (st : Stands h s shelf) where
     -- the line's bytes
     abbrev line : List ℕ
     line = l.now
@@ -117,7 +117,7 @@ module _ (q : Setup) where
       moves : Moves h call s shelf p
 
     -- a line that continues
-    continues : fault_of line ≡ None → q.meaning line ≡ Continues → Heard Continues (goes_on q line s shelf (not (on_course q h)) (cond (on_course q h) (who h) None))
+    continues : fault_of line ≡ None → q.meaning line ≡ Continues → Heard Continues (goes_on q line s shelf (course_of (on_course q h) (who h)))
     continues clean is =
         let z : boundary q call ≡ false = rw (clean, is) in
         let k : adds q call ≡ fed line = rw is in
@@ -135,10 +135,10 @@ module _ (q : Setup) where
         }
 
     -- a stray
-    stray : fault_of line ≡ None → q.meaning line ≡ Stray → Heard Stray (strays q line s shelf q.fixed.strays_end (not (on_course q h)))
+    stray : fault_of line ≡ None → q.meaning line ≡ Stray → Heard Stray (strays q line s shelf q.fixed.strays_end)
     stray clean is =
         let g = strays_as q len line s shelf q.fixed.strays_end (on_course q h) (who h) (text h) st in
-        let p = strays q line s shelf q.fixed.strays_end (not (on_course q h)) in
+        let p = strays q line s shelf q.fixed.strays_end in
         let moves : Moves h call s shelf p =
         elim (cases_Bool q.fixed.strays_end) [
           | inl t ↦
@@ -148,7 +148,7 @@ module _ (q : Setup) where
               idle_moves h call s shelf p (rw (clean, is, t)) (rw clean) (rw is)
               (after_same (ap (λ b. cond b true (on_course q h)) t) (ap (λ b. cond b None (who h)) t) (λ i x. refl) g.1)
         ] in
-        record { answer = g.0; wrote_it = strays_wrote q len line s shelf (in_force q h) q.fixed.strays_end (not (on_course q h)); moves = moves }
+        record { answer = g.0; wrote_it = strays_wrote q len line s shelf (in_force q h) q.fixed.strays_end; moves = moves }
 
     -- any line that can be read
     heard_line : (m : Meaning) → fault_of line ≡ None → q.meaning line ≡ m → Heard m (decided q line s shelf m)
@@ -165,11 +165,8 @@ module _ (q : Setup) where
               ∙ ap (λ b. wrote q len (in_force q h) line (opens q line s shelf o b).answer shelf) (sym e);
           moves = turn_moves (opens q line s shelf o (opening_text text' line)) o (opening_text text' line) (rw (clean, is)) clean same (λ i x. bytes) g.1;
         }
-    heard_line Continues clean is =
-        subst (Heard Continues)
-        (ap (λ b. goes_on q line s shelf b (cond (on_course q h) (who h) None)) (sym st.lost) ∙ ap (goes_on q line s shelf s.lost) (sym st.current))
-        (continues clean is)
-    heard_line Stray clean is = subst (Heard Stray) (ap (strays q line s shelf q.fixed.strays_end) (sym st.lost)) (stray clean is)
+    heard_line Continues clean is = subst (Heard Continues) (ap (goes_on q line s shelf) (sym st.course)) (continues clean is)
+    heard_line Stray clean is = stray clean is
 
     -- what is said of a line after calls that close nothing, over a shelf that is not short
     abbrev said_of : Option ℕ → Result Answer Refusal

@@ -2,7 +2,7 @@
 use Rattle.std.proofs.Common.{◌≡◌, ℕ, ◌+◌, ◌-◌, ◌*◌, ◌≤◌, List, ◌++◌, length, take, drop, sym, ap, ◌∙◌, inl, inr, arith}
 use Rattle.std.proofs.lemmas.List.{append_assoc, take-append-le, drop-append-le, take-take, drop-take, length-take-le, length-append, drop_at, take_at, drop-drop, length-drop}
 use Rattle.std.proofs.lemmas.Bool.{cases_order}
-use Rattle.reader.specs.Shelves.{put}
+use Rattle.text.specs.Lines.{put}
 use Rattle.reader.proofs.Stepping.{part_ends}
 
 -- what lies before the bytes that are written

@@ -1,19 +1,11 @@
 -- What is written into a share.
-use Rattle.std.proofs.Common.{◌≡◌, ℕ, ◌+◌, ◌-◌, ◌≤◌, List, [], ◌∷◌, ◌++◌, length, take, drop, set, replicate, IfSome, Some, None, Option, ap, ◌∙◌, arith, take-add}
+use Rattle.std.proofs.Common.{◌≡◌, ℕ, ◌+◌, ◌-◌, ◌≤◌, cond, ltb, List, [], ◌∷◌, ◌++◌, length, take, drop, replicate, IfSome, Some, None, Option, ap, ◌∙◌, inl, inr, arith, take-add}
 use borrow.Rule.Slice.PartMut.{put_mid}
-use Rattle.std.proofs.lemmas.List.{append_assoc, drop-drop, length-append, length_push, length-replicate, length-drop, take_at, take-take, drop-take, take-append-drop}
+use Rattle.std.proofs.lemmas.List.{append_assoc, drop-drop, length-append, length_push, length-replicate, length-drop, length-take-le, take_at, take-take, drop-take, take-append-drop}
+use Rattle.std.proofs.lemmas.Bool.{cases_Bool, ltb-true}
 use Rattle.std.proofs.lemmas.Slice.{drop-append-drop}
-use Rattle.text.proofs.Writes.{line_put}
-use Rattle.reader.specs.Shelves.{fed, opening_text, put}
-
--- a line written behind the first u bytes, and an LF behind it
-pub stored : (s line part : List ℕ) (u : ℕ) → part ≡ line → u + length line + 1 ≤ length s →
-    set (put_mid u (u + length line - u) s part) (u + length line) 10 ≡ put u (fed line) s
-stored s line part u same room =
-    let end : u + length line + 1 ≡ u + length (fed line) = omega (arith, length_push line 10) in
-    line_put s line part u same (omega arith)
-    ∙ append_assoc (take u s) (fed line) (drop (u + length line + 1) s)
-    ∙ ap (λ n. take u s ++ (fed line ++ drop n s)) end
+use Rattle.text.specs.Lines.{fed, put}
+use Rattle.reader.specs.Shelves.{opening_text}
 
 -- the front of a share filled with t spaces, and the rest of the line behind them
 pub opened : (s l fs ds : List ℕ) (t m : ℕ) → m ≡ t → fs ≡ replicate t 32 → ds ≡ drop t l → t ≤ length l → length l + 1 ≤ length s →
@@ -52,6 +44,25 @@ within_part s bs ys a k l u same h fits is =
     let a3 = append_assoc (take a s) (take u q) (bs ++ drop n q) in
     let g : a + n ≡ a + u + length bs = omega arith in
     cc
+
+-- a part written back as it was changes nothing
+part_back : (s : List ℕ) (a l : ℕ) → put_mid a l s (take l (drop a s)) ≡ s
+part_back s a l = ap (λ x. take a s ++ x) (take-append-drop l (drop a s)) ∙ take-append-drop a s
+
+-- a line written into a part of the shelf, if the part has room behind its first u bytes, is written into the shelf
+pub append_part : (s line ys : List ℕ) (a l share u : ℕ) → l ≡ share → a + share ≤ length s →
+    ys ≡ cond (ltb (u + length line) (length (take l (drop a s)))) (put u (fed line) (take l (drop a s))) (take l (drop a s)) →
+    put_mid a l s ys ≡ cond (ltb (u + length line) share) (put (a + u) (fed line) s) s
+append_part s line ys a l share u same fits is =
+    let size : length (take l (drop a s)) ≡ share = length-take-le l (drop a s) (omega (arith, length-drop a s)) ∙ same in
+    let test = ap (λ n. cond (ltb (u + length line) n) (put u (fed line) (take l (drop a s))) (take l (drop a s))) size in
+    elim (cases_Bool (ltb (u + length line) share)) [
+      | inl t ↦
+          (let room = ltb-true (u + length line) share t in
+          let ends : u + length (fed line) ≤ share = omega (arith, length_push line 10) in
+          rw t (within_part s (fed line) ys a share l u same ends fits (is ∙ test ∙ (rw t))))
+      | inr f ↦ rw f (ap (put_mid a l s) (is ∙ test ∙ (rw f)) ∙ part_back s a l)
+    ]
 
 -- what a line that opens stores is at most as long as the line and an LF
 pub opening_fits : (text : Option ℕ) (line : List ℕ) → IfSome text (λ t. t ≤ length line) → length (opening_text text line) ≤ length line + 1

@@ -1,5 +1,6 @@
 -- One call of a list, by what its operation does.
-use Rattle.std.specs.Prelude.{ℕ, List}
+use Rattle.std.specs.Prelude.{ℕ, List, Result}
+use Rattle.refusal.specs.declared.Refusal.{Refusal}
 use Rattle.rules.specs.declared.meaning.Place.{Place}
 use Rattle.reader.specs.Runs.{handed_to, replied, target_of}
 use Rattle.reader.specs.Steps.{Given, Setup, closed_from, closing, given, stepped}
@@ -11,7 +12,7 @@ use Rattle.reader.specs.declared.state.State.{State}
 
 -- its answer, the reader's state, the shelf and the targets
 pub record Turn : Type 0 where
-  pub reply : Reply
+  pub reply : Result Reply Refusal
   pub state : State
   pub shelf : List ℕ
   pub targets : List ℕ

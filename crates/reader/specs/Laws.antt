@@ -1,5 +1,6 @@
 -- What holds of every list of calls.
-use Rattle.std.specs.Prelude.{◌≡◌, ℕ, ◌<◌, true, false, cond, not, List, [], ◌∷◌, ◌++◌, length, take, drop, is_some, Some, None, Option, slice_index_or}
+use Rattle.std.specs.Prelude.{◌≡◌, ℕ, ◌<◌, true, false, cond, not, List, [], ◌∷◌, ◌++◌, length, take, drop, is_some, Some, None, Ok, Option, Result, slice_index_or}
+use Rattle.refusal.specs.declared.Refusal.{Refusal}
 use Rattle.refusal.specs.declared.Refusal.TheVariants.{NoText, TornText}
 use Rattle.rules.specs.declared.meaning.Place.{Place}
 use Rattle.reader.specs.Steps.{Setup, Given, handed, short, withheld}
@@ -15,9 +16,9 @@ use Rattle.reader.specs.declared.calls.Reply.TheVariants.{Body}
 
 -- Answers are determined: each is the one that the calls before it and the call itself determine, and so are the
 -- bytes of the shelf and of the targets. As many calls are made as there are places for replies.
-pub record AnswersDetermined (q : Setup) (calls : List Call) (shelf shelf' targets targets' : List ℕ) (replies replies' : List Reply) : Type 0 where
+pub record AnswersDetermined (q : Setup) (calls : List Call) (shelf shelf' targets targets' : List ℕ) (replies replies' : List (Result Reply Refusal)) : Type 0 where
   pub each : (k : ℕ) → k < length calls → k < length replies →
-      slice_index_or replies' k (Answered PassedOver)
+      slice_index_or replies' k (Ok (Answered PassedOver))
       ≡ (says q (length shelf) (take k calls) (slice_index_or calls k Close) (target_of (slice_index_or calls k Close) (targets_after q (length shelf) (take k calls) targets))).reply
   pub no_more : drop (length calls) replies' ≡ drop (length calls) replies
   pub shelf_bytes : shelf' ≡ shelf_after q (length shelf) (take (length replies) calls) shelf

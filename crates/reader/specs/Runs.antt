@@ -1,12 +1,13 @@
 -- What is answered to a call after other calls, by the stretch in force and by a name's last stretch.
 use Rattle.std.specs.Prelude.{ℕ, ◌+◌, ◌-◌, ◌*◌, min, Bool, false, cond, ◌||◌, List, [], ◌∷◌, ◌++◌, length, take, drop, Some, None, Ok, Err, Option, Result, nat_le}
+use Rattle.std.specs.Result.{result_map_both}
 use Rattle.refusal.specs.declared.Refusal.{Refusal}
 use Rattle.refusal.specs.declared.Refusal.TheVariants.{AlreadyClosed, ShortShelf, BadLine, FullShare, StillReading, NoText, TornText}
-use Rattle.text.specs.Lines.{fault_of}
+use Rattle.text.specs.Lines.{fault_of, fed, put}
 use Rattle.rules.specs.declared.meaning.Meaning.{Meaning}
 use Rattle.rules.specs.declared.meaning.Meaning.TheVariants.{Opens, Continues, Stray}
 use Rattle.rules.specs.declared.meaning.Place.{Place}
-use Rattle.reader.specs.Shelves.{put, fed, starting}
+use Rattle.reader.specs.Shelves.{starting}
 use Rattle.reader.specs.Steps.{Setup, Given, asked_by, handed, losing, short, withheld}
 use Rattle.reader.specs.Stretches.{Stretch, asked, heard, in_force, last_stretch, on_course, running, text_of, unharmed}
 use Rattle.reader.specs.declared.answer.Answer.{Answer}
@@ -14,23 +15,21 @@ use Rattle.reader.specs.declared.answer.Answer.TheVariants.{PassedOver, Opened, 
 use Rattle.reader.specs.declared.calls.Call.{Call}
 use Rattle.reader.specs.declared.calls.Call.TheVariants.{Line, Close, Ask}
 use Rattle.reader.specs.declared.calls.Reply.{Reply}
-use Rattle.reader.specs.declared.calls.Reply.TheVariants.{Answered, Closed, Body, Refused}
+use Rattle.reader.specs.declared.calls.Reply.TheVariants.{Answered, Closed, Body}
 
 -- the answer to a call, and the bytes of its target
 pub record Told : Type 0 where
-  pub reply : Reply
+  pub reply : Result Reply Refusal
   pub target : List ℕ
 
-abbrev pub replied : {X : Type 0} → (X → Reply) → Result X Refusal → Reply
-replied f (Ok x) = f x
-replied f (Err e) = Refused e
+-- what is answered where a call is not refused
+abbrev pub replied : {X : Type 0} → (X → Reply) → Result X Refusal → Result Reply Refusal
+replied f = result_map_both f (λ e. e)
 
 -- a line was lost
-abbrev pub lossy : Reply → Bool
-lossy (Answered a) = false
-lossy Closed = false
-lossy (Body n) = false
-lossy (Refused e) = losing e
+abbrev pub lossy : Result Reply Refusal → Bool
+lossy (Ok r) = false
+lossy (Err e) = losing e
 
 -- a list of calls, each of which changes some bytes by what came before it
 abbrev pub ran : (List Call → Call → List ℕ → List ℕ) → List Call → List Call → List ℕ → List ℕ

@@ -1,15 +1,8 @@
--- Bytes in the caller's memory.
-use Rattle.std.specs.Prelude.{ℕ, ◌+◌, List, [], ◌∷◌, ◌++◌, length, take, drop, replicate, Some, None, Option}
+-- What lines store.
+use Rattle.std.specs.Prelude.{ℕ, List, [], ◌++◌, drop, replicate, Some, None, Option}
+use Rattle.text.specs.Lines.{fed}
 use Rattle.rules.specs.declared.meaning.Meaning.{Meaning}
 use Rattle.rules.specs.declared.meaning.Meaning.TheVariants.{Opens, Continues, Stray}
-
--- the memory with these bytes in place of those from `at` on, and all others as they were
-abbrev pub put : ℕ → List ℕ → List ℕ → List ℕ
-put at bytes memory = take at memory ++ (bytes ++ drop (at + length bytes) memory)
-
--- a line as it is stored
-abbrev pub fed : List ℕ → List ℕ
-fed line = line ++ (10 ∷ [])
 
 -- what a line that opens a name stores: nothing, or its text and an LF, one space standing for each byte before it
 abbrev pub opening_text : Option ℕ → List ℕ → List ℕ

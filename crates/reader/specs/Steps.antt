@@ -4,19 +4,20 @@ use Rattle.refusal.specs.Numbers.{number}
 use Rattle.refusal.specs.declared.Refusal.{Refusal}
 use Rattle.refusal.specs.declared.Refusal.TheVariants.{AlreadyClosed, ShortShelf, BadLine, FullShare, StillReading, NoText, TornText, ShortTarget}
 use Rattle.text.specs.Dedents.{dedented}
-use Rattle.text.specs.Lines.{fault_of}
+use Rattle.text.specs.Lines.{fault_of, fed, put}
 use Rattle.text.specs.Trims.{trimmed}
 use Rattle.rules.specs.Meanings.{named}
 use Rattle.rules.specs.declared.meaning.Meaning.{Meaning}
 use Rattle.rules.specs.declared.meaning.Meaning.TheVariants.{Opens, Continues, Stray}
 use Rattle.rules.specs.declared.meaning.Properties.{Properties}
 use Rattle.names.specs.Asked.{index_of}
-use Rattle.reader.specs.Shelves.{put, fed, opening_text}
+use Rattle.reader.specs.Shelves.{opening_text}
 use Rattle.reader.specs.declared.answer.Answer.{Answer}
 use Rattle.reader.specs.declared.answer.Answer.TheVariants.{PassedOver, Opened, OtherOpened, Stored, Outside}
+use Rattle.reader.specs.declared.state.Course.{Course}
+use Rattle.reader.specs.declared.state.Course.TheVariants.{NoName, Open, Lost, Closed}
 use Rattle.reader.specs.declared.state.Kept.{Kept}
 use Rattle.reader.specs.declared.state.Kept.TheVariants.{Absent, Whole, Torn}
-use Rattle.reader.specs.declared.state.NameRecord.{NameRecord}
 use Rattle.reader.specs.declared.state.State.{State}
 
 -- What a reader is made of: the names asked for, the size of a share, and the rule.
@@ -36,42 +37,43 @@ asked_by q Stray line = None
 abbrev pub short : Setup → ℕ → Bool
 short q len = nat_lt len (length q.names * q.share)
 
--- the record of a name of which nothing is kept
-abbrev pub absent : NameRecord
-absent = record { kept = Absent; used = 0 }
+-- how many bytes of a name's share are its text
+abbrev pub used : Kept → ℕ
+used Absent = 0
+used (Whole n) = n
+used Torn = 0
 
-abbrev pub record_at : State → ℕ → NameRecord
-record_at s i = slice_index_or s.records i absent
+abbrev pub kept_at : State → ℕ → Kept
+kept_at s i = slice_index_or s.kept i Absent
+
+abbrev pub is_closed : Course → Bool
+is_closed NoName = false
+is_closed (Open i) = false
+is_closed Lost = false
+is_closed Closed = true
 
 -- a new reader's state
 abbrev pub fresh : State
-fresh = record { records = replicate 64 absent; current = None; lost = false; closed = false }
+fresh = record { kept = replicate 64 Absent; course = NoName }
 
 -- the stretch ends: no name is open, and the reader is on course
 abbrev pub finished : State → State
-finished s = record { records = s.records; current = None; lost = false; closed = s.closed }
-
-abbrev pub shut : State → State
-shut s = record { records = s.records; current = None; lost = false; closed = true }
+finished s = record { kept = s.kept; course = NoName }
 
 -- the open name, if there is one, is torn
-abbrev pub torn_at : Option ℕ → List NameRecord → List NameRecord
-torn_at None rs = rs
-torn_at (Some i) rs = slice_set rs i record { kept = Torn; used = (slice_index_or rs i absent).used }
+abbrev pub torn_at : Course → List Kept → List Kept
+torn_at NoName ks = ks
+torn_at (Open i) ks = slice_set ks i Torn
+torn_at Lost ks = ks
+torn_at Closed ks = ks
 
 -- the open name is torn, none is open, and the reader is lost
 abbrev pub strayed : State → State
-strayed s = record { records = torn_at s.current s.records; current = None; lost = true; closed = s.closed }
+strayed s = record { kept = torn_at s.course s.kept; course = Lost }
 
 -- the name i is whole and open, with this many bytes
 abbrev pub opened_at : ℕ → ℕ → State → State
-opened_at i used s =
-    record { records = slice_set s.records i record { kept = Whole; used = used }; current = Some i; lost = false; closed = s.closed }
-
--- the name i has this many bytes
-abbrev pub grown_at : ℕ → ℕ → State → State
-grown_at i used s =
-    record { records = slice_set s.records i record { kept = (record_at s i).kept; used = used }; current = s.current; lost = s.lost; closed = s.closed }
+opened_at i n s = record { kept = slice_set s.kept i (Whole n); course = Open i }
 
 -- what a line does: its answer, the reader's state and the shelf
 pub record Step : Type 0 where
@@ -92,34 +94,40 @@ module _ (q : Setup) (line : List ℕ) (s : State) (shelf : List ℕ) where
   opens (Some i) bytes =
       record { answer = Ok (Opened i); state = opened_at i (length bytes) s; shelf = put (i * q.share) bytes shelf }
 
-  -- the line goes on in the share of the open name, if it has room
+  -- the line goes on in the share of the open name, behind n bytes, if it has room
   abbrev pub keeps : ℕ → ℕ → Step
-  keeps i used =
-      cond (nat_lt (used + length line) q.share)
+  keeps i n =
+      cond (nat_lt (n + length line) q.share)
       record {
         answer = Ok Stored;
-        state = grown_at i (used + length line + 1) s;
-        shelf = put (i * q.share + used) (fed line) shelf;
+        state = opened_at i (n + length line + 1) s;
+        shelf = put (i * q.share + n) (fed line) shelf;
       }
       (refuses FullShare (strayed s))
 
-  -- a line that continues: the reader is lost or not, and a name is open or not
-  abbrev pub goes_on : Bool → Option ℕ → Step
-  goes_on true o = answers PassedOver
-  goes_on false None = answers Outside
-  goes_on false (Some i) = keeps i (record_at s i).used
+  -- a line that continues, by the reader's course
+  abbrev pub goes_on : Course → Step
+  goes_on NoName = answers Outside
+  goes_on (Open i) = keeps i (used (kept_at s i))
+  goes_on Lost = answers PassedOver
+  goes_on Closed = answers Outside
 
-  -- a stray: strays end a stretch or not, and the reader is lost or not
-  abbrev pub strays : Bool → Bool → Step
-  strays true lost = record { answer = Ok Outside; state = finished s; shelf = shelf }
-  strays false false = answers Outside
-  strays false true = answers PassedOver
+  -- a stray that ends nothing, by the reader's course
+  abbrev pub passes : Course → Step
+  passes NoName = answers Outside
+  passes (Open i) = answers Outside
+  passes Lost = answers PassedOver
+  passes Closed = answers Outside
+
+  -- a stray, where strays end a stretch or not
+  abbrev pub strays : Bool → Step
+  strays ends = cond ends record { answer = Ok Outside; state = finished s; shelf = shelf } (passes s.course)
 
   -- a line that can be read
   abbrev pub decided : Meaning → Step
   decided (Opens name text) = opens (asked_by q (Opens name text) line) (opening_text text line)
-  decided Continues = goes_on s.lost s.current
-  decided Stray = strays q.fixed.strays_end s.lost
+  decided Continues = goes_on s.course
+  decided Stray = strays q.fixed.strays_end
 
   abbrev pub unless_bad : Option ℕ → Step
   unless_bad (Some at) = refuses (BadLine at) (strayed s)
@@ -128,7 +136,7 @@ module _ (q : Setup) (line : List ℕ) (s : State) (shelf : List ℕ) where
   -- a line; kept shut, since it holds every case
   unfoldable pub stepped : Step
   stepped =
-      cond s.closed (refuses AlreadyClosed s)
+      cond (is_closed s.course) (refuses AlreadyClosed s)
       (cond (short q (length shelf)) (refuses ShortShelf s) (unless_bad (fault_of line)))
 
 -- is this a refusal by which a line is lost?
@@ -142,10 +150,11 @@ LeavesAlone s shelf p =
 
 -- a closing: its answer, and the state
 abbrev pub closing : State → Result (Unit {0}) Refusal
-closing s = cond s.closed (Err AlreadyClosed) (Ok tt)
+closing s = cond (is_closed s.course) (Err AlreadyClosed) (Ok tt)
 
+-- what was kept stays
 abbrev pub closed_from : State → State
-closed_from s = cond s.closed s (shut s)
+closed_from s = record { kept = s.kept; course = Closed }
 
 -- what a question for a body does: its answer, and the target
 pub record Given : Type 0 where
@@ -167,25 +176,21 @@ module _ (target : List ℕ) where
       record { answer = Ok (length (body_of text)); target = put 0 (body_of text) target }
       (withheld ShortTarget)
 
-  abbrev pub handed_if : Kept → List ℕ → Given
-  handed_if Absent text = withheld NoText
-  handed_if Whole text = handed text
-  handed_if Torn text = withheld TornText
+  -- what is kept of a name, whose share holds these bytes
+  abbrev pub handed_of : Kept → List ℕ → Given
+  handed_of Absent bytes = withheld NoText
+  handed_of (Whole n) bytes = handed (take n bytes)
+  handed_of Torn bytes = withheld TornText
 
--- the text that a share holds
+-- the text of n bytes that a share holds
 abbrev pub held_at : ℕ → ℕ → ℕ → List ℕ → List ℕ
-held_at share i used shelf = take used (drop (i * share) shelf)
+held_at share i n shelf = take n (drop (i * share) shelf)
 
 abbrev pub given : Setup → State → List ℕ → ℕ → List ℕ → Given
 given q s shelf i target =
-    cond s.closed
+    cond (is_closed s.course)
     (cond (short q (length shelf)) (withheld target ShortShelf)
     (cond (nat_lt i (length q.names))
-    (handed_if target (record_at s i).kept (held_at q.share i (record_at s i).used shelf))
+    (handed_of target (kept_at s i) (drop (i * q.share) shelf))
     (withheld target NoText)))
     (withheld target StillReading)
-
--- is the name one of so many, if there is one?
-abbrev pub below : ℕ → Option ℕ → Bool
-below n None = true
-below n (Some i) = nat_lt i n

@@ -1,5 +1,6 @@
 -- Worked lists of calls, with the answers and the bytes that the definitions give them.
-use Rattle.std.specs.Prelude.{◌≡◌, ℕ, true, false, List, [], ◌∷◌, ◌++◌, length, take, replicate, codes}
+use Rattle.std.specs.Prelude.{◌≡◌, ℕ, true, false, List, [], ◌∷◌, ◌++◌, length, take, replicate, codes, Ok, Err, Result}
+use Rattle.refusal.specs.declared.Refusal.{Refusal}
 use Rattle.refusal.specs.declared.Refusal.TheVariants.{AlreadyClosed, BadLine, FullShare, NoText, ShortShelf, ShortTarget, StillReading, TornText}
 use Rattle.rules.specs.Meanings.{starlark_entry, starlark_section}
 use Rattle.reader.specs.Runs.{says, shelf_after, target_of, targets_after}
@@ -8,7 +9,7 @@ use Rattle.reader.specs.declared.answer.Answer.TheVariants.{Opened, OtherOpened,
 use Rattle.reader.specs.declared.calls.Call.{Call}
 use Rattle.reader.specs.declared.calls.Call.TheVariants.{Ask, Close, Line}
 use Rattle.reader.specs.declared.calls.Reply.{Reply}
-use Rattle.reader.specs.declared.calls.Reply.TheVariants.{Answered, Body, Closed, Refused}
+use Rattle.reader.specs.declared.calls.Reply.TheVariants.{Answered, Body, Closed}
 
 abbrev line : List ℕ → Call
 line bytes = Line record { ref_ptr = (0, 0); now = bytes }
@@ -36,7 +37,7 @@ entries share =
     }
 
 -- the answers to the calls that come after the calls h
-abbrev said : Setup → ℕ → List Call → List Call → List ℕ → List Reply
+abbrev said : Setup → ℕ → List Call → List Call → List ℕ → List (Result Reply Refusal)
 said q len h [] targets = []
 said q len h (c ∷ cs) targets =
     (says q len h c (target_of c (targets_after q len h targets))).reply ∷ said q len (h ++ (c ∷ [])) cs targets
@@ -45,7 +46,7 @@ pub record Worked : Type 0 where
   pub asks : Setup
   pub len : ℕ
   pub calls : List Call
-  pub replies : List Reply
+  pub replies : List (Result Reply Refusal)
   -- the first bytes of the shelf and the targets afterwards, all of which began as dots
   pub shelf : List ℕ
   pub targets : List ℕ
@@ -70,9 +71,9 @@ pasted =
           ∷ line (codes "Deny " ++ 226 ∷ 128 ∷ 148 ∷ codes " see:") ∷ line (codes "  deny_group: All may.")
           ∷ line (codes "Returns:") ∷ line (codes "  Yes.") ∷ ask 1 9 ∷ Close ∷ ask 0 9 ∷ ask 1 3 ∷ ask 1 9 ∷ line (codes "Args:") ∷ [];
       replies =
-          Answered (Opened 0) ∷ Answered Stored
-          ∷ Refused (BadLine 5) ∷ Answered PassedOver
-          ∷ Answered (Opened 1) ∷ Answered Stored ∷ Refused StillReading ∷ Closed ∷ Refused TornText ∷ Refused ShortTarget ∷ Body 4 ∷ Refused AlreadyClosed ∷ [];
+          Ok (Answered (Opened 0)) ∷ Ok (Answered Stored)
+          ∷ Err (BadLine 5) ∷ Ok (Answered PassedOver)
+          ∷ Ok (Answered (Opened 1)) ∷ Ok (Answered Stored) ∷ Err StillReading ∷ Ok Closed ∷ Err TornText ∷ Err ShortTarget ∷ Ok (Body 4) ∷ Err AlreadyClosed ∷ [];
       shelf = codes "  deny_group: Kept out." ++ 10 ∷ codes "......";
       targets = codes "Yes......";
     }
@@ -87,8 +88,8 @@ entered =
           line (codes "deny_group: Kept out,") ∷ line (codes "  always.") ∷ line (13 ∷ []) ∷ line (codes "  deny_group: no") ∷ line (codes "stray")
           ∷ line (codes "user: Login") ∷ line (codes "stray") ∷ line (codes "  name.") ∷ line (codes "other: x") ∷ line (codes "  y") ∷ Close ∷ ask 1 20 ∷ ask 2 20 ∷ ask 0 20 ∷ [];
       replies =
-          Answered (Opened 1) ∷ Answered Stored ∷ Refused (BadLine 0) ∷ Answered PassedOver ∷ Answered PassedOver
-          ∷ Answered (Opened 0) ∷ Answered Outside ∷ Answered Stored ∷ Answered OtherOpened ∷ Answered Outside ∷ Closed ∷ Refused TornText ∷ Refused NoText ∷ Body 11 ∷ [];
+          Ok (Answered (Opened 1)) ∷ Ok (Answered Stored) ∷ Err (BadLine 0) ∷ Ok (Answered PassedOver) ∷ Ok (Answered PassedOver)
+          ∷ Ok (Answered (Opened 0)) ∷ Ok (Answered Outside) ∷ Ok (Answered Stored) ∷ Ok (Answered OtherOpened) ∷ Ok (Answered Outside) ∷ Ok Closed ∷ Err TornText ∷ Err NoText ∷ Ok (Body 11) ∷ [];
       shelf = codes "      Login" ++ 10 ∷ codes "  name." ++ 10 ∷ codes "...";
       targets = codes "Login" ++ 10 ∷ codes "name..........";
     }
@@ -100,7 +101,7 @@ full =
       asks = entries 1001;
       len = 2002;
       calls = line (codes "user: a") ∷ line (replicate 992 32) ∷ line [] ∷ line [] ∷ Close ∷ Close ∷ ask 0 9 ∷ ask 1 9 ∷ [];
-      replies = Answered (Opened 0) ∷ Answered Stored ∷ Refused FullShare ∷ Answered PassedOver ∷ Closed ∷ Refused AlreadyClosed ∷ Refused TornText ∷ Refused NoText ∷ [];
+      replies = Ok (Answered (Opened 0)) ∷ Ok (Answered Stored) ∷ Err FullShare ∷ Ok (Answered PassedOver) ∷ Ok Closed ∷ Err AlreadyClosed ∷ Err TornText ∷ Err NoText ∷ [];
       shelf = codes "      a" ++ 10 ∷ codes "     ";
       targets = [];
     }
@@ -111,7 +112,7 @@ lacking =
       asks = entries 1001;
       len = 2001;
       calls = line (codes "user: a") ∷ line (13 ∷ []) ∷ Close ∷ ask 0 9 ∷ [];
-      replies = Refused ShortShelf ∷ Refused ShortShelf ∷ Closed ∷ Refused ShortShelf ∷ [];
+      replies = Err ShortShelf ∷ Err ShortShelf ∷ Ok Closed ∷ Err ShortShelf ∷ [];
       shelf = codes ".";
       targets = [];
     }

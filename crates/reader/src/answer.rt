@@ -2,7 +2,7 @@ ghost use Rattle.std.specs.Prelude.{◌≡◌};
 ghost use Rattle.reader.specs.Answers.{answer_number};
 
 // What becomes of a line that is not refused.
-#[derive(Clone, Copy, Debug, PartialEq)]
+#[derive(Clone, Copy, Debug, PartialEq, Eq)]
 pub enum Answer {
     // Passed over, the reader being lost.
     PassedOver,
@@ -17,6 +17,7 @@ pub enum Answer {
 }
 
 impl Answer {
+    // The number that is printed for it; code goes by the variants.
     pub fn number(&self) -> u8
         ensures { result ≡ answer_number self.now }
     {

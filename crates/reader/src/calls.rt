@@ -1,5 +1,4 @@
 use crate::answer::Answer;
-use refusal::Refusal;
 use rules::meaning::Place;
 
 // A call to a reader.
@@ -11,12 +10,11 @@ pub enum Call<'a> {
     Ask { index: usize, target: Place },
 }
 
-// What a call is answered.
-#[derive(Clone, Copy, Debug, PartialEq)]
+// What a call that is not refused is answered.
+#[derive(Clone, Copy, Debug, PartialEq, Eq)]
 pub enum Reply {
     Answered(Answer),
     Closed,
     // How long the body is that the target now holds.
     Body(usize),
-    Refused(Refusal),
 }

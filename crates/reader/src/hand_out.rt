@@ -11,7 +11,7 @@ pub fn hand_out(text: &[u8], target: &mut [u8]) -> Result<usize, Refusal>
     requires { length text.now ≤ 16384 }
     ensures { record { answer = result; target = target.new } ≡ handed target.old text.now }
 {
-    // The target is written only once the body is known to fit.
+    // A fixed array, for a reader allocates nothing; the target is written only once the body is known to fit.
     let mut scratch = [0u8; SHARE_MOST + 1];
     let len = dedent_into(text, &mut scratch).unwrap();
     let body = trim(&scratch[..len]);

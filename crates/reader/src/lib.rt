@@ -11,4 +11,5 @@ mod state;
 mod steps;
 mod store;
 pub mod targets;
+mod terms;
 pub mod worked;

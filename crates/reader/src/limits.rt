@@ -14,5 +14,5 @@ pub fn share_fits(count: usize, share: usize) -> bool
     requires { count ≤ 64 }
     ensures { result ≡ share_fits count share }
 {
-    share >= SHARE_LEAST && share <= SHARE_MOST && count * share <= SHELF_MOST
+    matches!(share, SHARE_LEAST..=SHARE_MOST) && count * share <= SHELF_MOST
 }

@@ -1,13 +1,15 @@
-ghost use Rattle.std.specs.Prelude.{◌≡◌, ℕ, ◌≤◌, true, false, length, Some, None, MatchResult, OnOk};
+ghost use Rattle.std.specs.Prelude.{◌≡◌, ℕ, ◌<◌, ◌≤◌, false, length, Some, None, MatchResult, OnOk};
 ghost use Rattle.text.specs.Lines.{texts};
-ghost use Rattle.reader.specs.Setups.{setup};
+ghost use Rattle.reader.specs.Setups.{setup_of};
 ghost use Rattle.reader.specs.Starts.{start_refusal, Starts};
-ghost use Rattle.reader.specs.Steps.{below, closed_from, closing, decided, fresh, given, record_at, short, stepped, LeavesAlone};
+ghost use Rattle.reader.specs.declared.state.Course.TheVariants.{Open};
+ghost use Rattle.reader.specs.Steps.{closed_from, closing, decided, fresh, given, kept_at, short, stepped, used, LeavesAlone};
 
 use crate::answer::Answer;
 use crate::hand_out::hand_out;
 use crate::limits::share_fits;
-use crate::state::{Kept, NameRecord, State};
+use crate::state::{Course, Kept, State};
+use crate::terms::Terms;
 use names::{find, names_fault};
 use refusal::Refusal;
 use rules::meaning::Meaning;
@@ -17,23 +19,18 @@ use text::lines::fault;
 // Reads lines by a rule, and keeps on a shelf what belongs to each asked name.
 #[derive(Drop)]
 pub struct Reader<'n, 'm, R> {
-    rule: R,
-    names: &'n [&'m [u8]],
-    share: usize,
+    terms: Terms<'n, 'm, R>,
     state: State,
-    ghost few: { length names.now ≤ 64 },
-    ghost least: { 1001 ≤ share },
-    ghost most: { share ≤ 16384 },
     // The open name is one of those asked for.
-    ghost among: { below (length names.now) state.current ≡ true },
+    ghost among: { (i : ℕ) → state.course ≡ Open i → i < length terms.names.now },
     // No name has more than its share.
-    ghost within: { (k : ℕ) → (record_at state k).used ≤ share },
+    ghost within: { (k : ℕ) → used (kept_at state k) ≤ terms.share },
 }
 
 impl<'n, 'm, R: LineRule + Drop> Reader<'n, 'm, R> {
     // A new reader: on course, no name open, all absent.
     pub fn start(rule: R, names: &'n [&'m [u8]], share: usize) -> Result<Reader<'n, 'm, R>, Refusal>
-        ensures value { MatchResult result (λ reader. (start_refusal (texts names.now) share ≡ None) × (reader.names.now ≡ names.now) × (reader.share ≡ share) × (reader.state ≡ fresh) × (reader.rule ≡ rule)) (λ e. start_refusal (texts names.now) share ≡ Some e) }
+        ensures value { MatchResult result (λ reader. (start_refusal (texts names.now) share ≡ None) × (reader.terms.names.now ≡ names.now) × (reader.terms.share ≡ share) × (reader.state ≡ fresh) × (reader.terms.rule ≡ rule)) (λ e. start_refusal (texts names.now) share ≡ Some e) }
         ensures starts { OnOk result (Starts (texts names.now) share) }
     {
         if names.is_empty() {
@@ -46,9 +43,7 @@ impl<'n, 'm, R: LineRule + Drop> Reader<'n, 'm, R> {
             return Err(Refusal::BadShare);
         }
         Ok(Reader {
-            rule,
-            names,
-            share,
+            terms: Terms { rule, names, share },
             state: State::new(),
         })
     }
@@ -57,62 +52,54 @@ impl<'n, 'm, R: LineRule + Drop> Reader<'n, 'm, R> {
 impl<R: LineRule> Reader<'_, '_, R> {
     // Has the shelf too few bytes for a share of each name?
     fn is_short(&self, shelf: &[u8]) -> bool
-        ensures { result ≡ short (setup self.now.names.now self.now.share R.LineRule) (length shelf.now) }
+        ensures { result ≡ short (setup_of self.now.terms R.LineRule) (length shelf.now) }
     {
-        shelf.len() < self.names.len() * self.share
+        shelf.len() < self.terms.names.len() * self.terms.share
     }
 
-    // What becomes of a line that can be read.
+    // What becomes of a line that can be read. `kept` stands in the three methods that change a reader: as functions
+    // of the state alone they would have to require what the ghost fields say.
     fn decide(&mut self, shelf: &mut [u8], line: &[u8]) -> Result<Answer, Refusal>
-        requires long { short (setup self.old.names.now self.old.share R.LineRule) (length shelf.old) ≡ false }
+        requires long { short (setup_of self.old.terms R.LineRule) (length shelf.old) ≡ false }
         requires brief { length line.now ≤ 1000 }
-        ensures did { record { answer = result; state = self.new.state; shelf = shelf.new } ≡ decided (setup self.old.names.now self.old.share R.LineRule) line.now self.old.state shelf.old (R.LineRule.meaning line.now) }
-        ensures kept { (self.new.rule ≡ self.old.rule) × (self.new.names ≡ self.old.names) × (self.new.share ≡ self.old.share) }
+        ensures did { record { answer = result; state = self.new.state; shelf = shelf.new } ≡ decided (setup_of self.old.terms R.LineRule) line.now self.old.state shelf.old (R.LineRule.meaning line.now) }
+        ensures kept { self.new.terms ≡ self.old.terms }
     {
-        let fixed = R::properties();
-        let share = self.share;
-        match (self.rule.ask(line), self.state.current, self.state.lost) {
-            (Meaning::Opens { name, text }, _, _) => {
-                let from = name.at;
-                let to = from + name.len;
-                match find(self.names, &line[from..to], fixed.names_lowered) {
-                    Some(i) => {
-                        self.state.open(i, share, shelf, line, text);
-                        Ok(Answer::Opened(i))
-                    }
-                    None => {
-                        self.state.finish_section();
-                        Ok(Answer::OtherOpened)
-                    }
-                }
+        match (self.terms.rule.ask(line), self.state.course) {
+            (Meaning::Opens { name, text }, _) => {
+                let Some(i) = find(self.terms.names, name.of(line), R::NAMES_LOWERED) else {
+                    self.state.finish_section();
+                    return Ok(Answer::OtherOpened);
+                };
+                let used = self.terms.begin(shelf, i, line, text);
+                self.state.open(i, used);
+                Ok(Answer::Opened(i))
             }
-            (Meaning::Continues, _, true) => Ok(Answer::PassedOver),
-            (Meaning::Continues, Some(i), false)
-                if self.state.records[i].used + line.len() < share => {
-                self.state.keep(i, share, shelf, line);
-                Ok(Answer::Stored)
-            }
-            (Meaning::Continues, Some(_), false) => {
-                self.state.lose();
-                Err(Refusal::FullShare)
-            }
-            (Meaning::Continues, None, false) => Ok(Answer::Outside),
-            (Meaning::Stray, _, _) if fixed.strays_end => {
+            (Meaning::Stray, _) if R::STRAYS_END => {
                 self.state.finish_section();
                 Ok(Answer::Outside)
             }
-            (Meaning::Stray, _, false) => Ok(Answer::Outside),
-            (Meaning::Stray, _, true) => Ok(Answer::PassedOver),
+            (_, Course::Lost) => Ok(Answer::PassedOver),
+            (Meaning::Continues, Course::Open(i)) => {
+                let behind = self.state.kept[i].used();
+                let Some(used) = self.terms.append(shelf, i, behind, line) else {
+                    self.state.lose();
+                    return Err(Refusal::FullShare);
+                };
+                self.state.open(i, used);
+                Ok(Answer::Stored)
+            }
+            _ => Ok(Answer::Outside),
         }
     }
 
     // The next line.
     pub fn line(&mut self, shelf: &mut [u8], line: &[u8]) -> Result<Answer, Refusal>
-        ensures did { record { answer = result; state = self.new.state; shelf = shelf.new } ≡ stepped (setup self.old.names.now self.old.share R.LineRule) line.now self.old.state shelf.old }
+        ensures did { record { answer = result; state = self.new.state; shelf = shelf.new } ≡ stepped (setup_of self.old.terms R.LineRule) line.now self.old.state shelf.old }
         ensures leaves { LeavesAlone self.old.state shelf.old record { answer = result; state = self.new.state; shelf = shelf.new } }
-        ensures kept { (self.new.rule ≡ self.old.rule) × (self.new.names ≡ self.old.names) × (self.new.share ≡ self.old.share) }
+        ensures kept { self.new.terms ≡ self.old.terms }
     {
-        if self.state.closed {
+        if self.state.is_closed() {
             return Err(Refusal::AlreadyClosed);
         }
         if self.is_short(shelf) {
@@ -128,34 +115,32 @@ impl<R: LineRule> Reader<'_, '_, R> {
     // The end of the lines: the stretch in force ends.
     pub fn close(&mut self) -> Result<(), Refusal>
         ensures did { (result ≡ closing self.old.state) × (self.new.state ≡ closed_from self.old.state) }
-        ensures kept { (self.new.rule ≡ self.old.rule) × (self.new.names ≡ self.old.names) × (self.new.share ≡ self.old.share) }
+        ensures kept { self.new.terms ≡ self.old.terms }
     {
-        if self.state.closed {
+        if self.state.is_closed() {
             return Err(Refusal::AlreadyClosed);
         }
-        self.state.finish_section();
-        self.state.closed = true;
+        self.state.course = Course::Closed;
         Ok(())
     }
 
     // The text of the name with this index, dedented and trimmed, to the front of the target; gives its length.
     pub fn body(&self, shelf: &[u8], index: usize, target: &mut [u8]) -> Result<usize, Refusal>
-        ensures { record { answer = result; target = target.new } ≡ given (setup self.now.names.now self.now.share R.LineRule) self.now.state shelf.now index target.old }
+        ensures { record { answer = result; target = target.new } ≡ given (setup_of self.now.terms R.LineRule) self.now.state shelf.now index target.old }
     {
-        if !self.state.closed {
+        if !self.state.is_closed() {
             return Err(Refusal::StillReading);
         }
         if self.is_short(shelf) {
             return Err(Refusal::ShortShelf);
         }
-        if index >= self.names.len() {
+        if index >= self.terms.names.len() {
             return Err(Refusal::NoText);
         }
-        let NameRecord { kept, used } = self.state.records[index];
-        match kept {
+        match self.state.kept[index] {
             Kept::Absent => Err(Refusal::NoText),
-            Kept::Whole => {
-                let start = index * self.share;
+            Kept::Whole(used) => {
+                let start = self.terms.part(index).start;
                 let end = start + used;
                 hand_out(&shelf[start..end], target)
             }

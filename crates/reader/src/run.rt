@@ -2,7 +2,7 @@ ghost use Rattle.std.specs.Prelude.{◌≡◌, Some, None, MatchResult, OnOk};
 ghost use Rattle.text.specs.Lines.{texts};
 ghost use Rattle.reader.specs.Calls.{called, given_in};
 ghost use Rattle.reader.specs.Laws.{AnswersDetermined, BodiesWhole, DamageEnds, LostLeaveShelf};
-ghost use Rattle.reader.specs.Setups.{setup};
+ghost use Rattle.reader.specs.Setups.{setup, setup_of};
 ghost use Rattle.reader.specs.Starts.{start_refusal};
 
 use crate::calls::{Call, Reply};
@@ -20,8 +20,9 @@ fn ask<R: LineRule>(
     target: Place,
     targets: &mut [u8],
 ) -> Result<usize, Refusal>
-    ensures { record { answer = result; target = targets.new } ≡ given_in (setup reader.now.names.now reader.now.share R.LineRule) reader.now.state shelf.now index target targets.old }
+    ensures { record { answer = result; target = targets.new } ≡ given_in (setup_of reader.now.terms R.LineRule) reader.now.state shelf.now index target targets.old }
 {
+    // By its ends: `Place::of` gives a part to read, not one to write into.
     let part = clip(target, targets.len());
     let start = part.at;
     let end = start + part.len;
@@ -34,23 +35,16 @@ fn reply<R: LineRule>(
     shelf: &mut [u8],
     targets: &mut [u8],
     call: &Call,
-) -> Reply
-    ensures did { record { reply = result; state = reader.new.state; shelf = shelf.new; targets = targets.new } ≡ called (setup reader.old.names.now reader.old.share R.LineRule) reader.old.state shelf.old targets.old call.now }
-    ensures kept { (reader.new.names ≡ reader.old.names) × (reader.new.share ≡ reader.old.share) }
+) -> Result<Reply, Refusal>
+    ensures did { record { reply = result; state = reader.new.state; shelf = shelf.new; targets = targets.new } ≡ called (setup_of reader.old.terms R.LineRule) reader.old.state shelf.old targets.old call.now }
+    ensures kept { reader.new.terms ≡ reader.old.terms }
 {
     match call {
-        Call::Line(line) => match reader.line(shelf, line) {
-            Ok(answer) => Reply::Answered(answer),
-            Err(refusal) => Reply::Refused(refusal),
-        },
-        Call::Close => match reader.close() {
-            Ok(()) => Reply::Closed,
-            Err(refusal) => Reply::Refused(refusal),
-        },
-        Call::Ask { index, target } => match ask(reader, shelf, *index, *target, targets) {
-            Ok(len) => Reply::Body(len),
-            Err(refusal) => Reply::Refused(refusal),
-        },
+        Call::Line(line) => reader.line(shelf, line).map(Reply::Answered),
+        Call::Close => reader.close().map(|()| Reply::Closed),
+        Call::Ask { index, target } => {
+            ask(reader, shelf, *index, *target, targets).map(Reply::Body)
+        }
     }
 }
 
@@ -62,7 +56,7 @@ pub fn run<'n, 'm, R: LineRule + Drop>(
     shelf: &mut [u8],
     targets: &mut [u8],
     calls: &[Call],
-    replies: &mut [Reply],
+    replies: &mut [Result<Reply, Refusal>],
 ) -> Result<(), Refusal>
     ensures refused { MatchResult result (λ _. start_refusal (texts names.now) share ≡ None) (λ e. (start_refusal (texts names.now) share ≡ Some e) × (shelf.new ≡ shelf.old) × (targets.new ≡ targets.old) × (replies.new ≡ replies.old)) }
     ensures determined { OnOk result (AnswersDetermined (setup names.now share R.LineRule) calls.now shelf.old shelf.new targets.old targets.new replies.old replies.new) }
@@ -72,8 +66,8 @@ pub fn run<'n, 'm, R: LineRule + Drop>(
 {
     let mut reader = Reader::start(rule, names, share)?;
     let made = calls.len().min(replies.len());
-    for i in 0..made {
-        replies[i] = reply(&mut reader, shelf, targets, &calls[i]);
+    for (i, call) in calls[..made].iter().enumerate() {
+        replies[i] = reply(&mut reader, shelf, targets, call);
     }
     Ok(())
 }

@@ -1,10 +1,21 @@
 // How a reader's state goes from call to call.
-ghost use Rattle.std.specs.Prelude.{◌≡◌, ◌+◌, ◌*◌, ◌<◌, ◌≤◌, length, IfSome, Some};
-ghost use Rattle.reader.specs.Shelves.{fed, opening_text, put};
-ghost use Rattle.reader.specs.Steps.{finished, fresh, grown_at, opened_at, record_at, strayed};
+ghost use Rattle.std.specs.Prelude.{◌≡◌, ℕ, ◌<◌};
+ghost use Rattle.reader.specs.declared.state.Course.TheVariants.{Open};
+ghost use Rattle.reader.specs.Steps.{finished, fresh, is_closed, opened_at, strayed, used};
 
-use crate::state::{Kept, NameRecord, State};
-use crate::store::{store, store_opening};
+use crate::state::{Course, Kept, State};
+
+impl Kept {
+    // How many bytes of the share are text.
+    pub fn used(&self) -> usize
+        ensures { result ≡ used self.now }
+    {
+        match self {
+            Kept::Whole(used) => *used,
+            _ => 0,
+        }
+    }
+}
 
 impl State {
     // On course, no name open, all absent.
@@ -12,75 +23,41 @@ impl State {
         ensures { result ≡ fresh }
     {
         State {
-            records: [NameRecord {
-                kept: Kept::Absent,
-                used: 0,
-            }; 64],
-            current: None,
-            lost: false,
-            closed: false,
+            kept: [Kept::Absent; 64],
+            course: Course::NoName,
         }
+    }
+
+    pub fn is_closed(&self) -> bool
+        ensures { result ≡ is_closed self.now.course }
+    {
+        self.course == Course::Closed
     }
 
     // The stretch ends: what its name has stays, and lines are understood again.
     pub fn finish_section(&mut self)
         ensures { self.new ≡ finished self.old }
     {
-        self.current = None;
-        self.lost = false;
+        self.course = Course::NoName;
     }
 
     // A line is lost: what its name has is torn, and nothing is understood up to the next boundary.
     pub fn lose(&mut self)
-        requires { IfSome self.old.current (λ i. i < 64) }
+        requires { (i : ℕ) → self.old.course ≡ Open i → i < 64 }
         ensures { self.new ≡ strayed self.old }
     {
-        if let Some(i) = self.current {
-            self.records[i].kept = Kept::Torn;
+        if let Course::Open(i) = self.course {
+            self.kept[i] = Kept::Torn;
         }
-        self.current = None;
-        self.lost = true;
+        self.course = Course::Lost;
     }
 
-    // An asked name opens: its share is emptied, and what the line stores is written there.
-    pub fn open(
-        &mut self,
-        i: usize,
-        share: usize,
-        shelf: &mut [u8],
-        line: &[u8],
-        text: Option<usize>,
-    )
-        requires index { i < 64 }
-        requires part { i * share + share ≤ length shelf.old }
-        requires room { length line.now + 1 ≤ share }
-        requires inside { IfSome text (λ t. t ≤ length line.now) }
-        ensures state { self.new ≡ opened_at i (length (opening_text text line.now)) self.old }
-        ensures shelf { shelf.new ≡ put (i * share) (opening_text text line.now) shelf.old }
+    // The name with this index is open, and its text has so many bytes.
+    pub fn open(&mut self, i: usize, used: usize)
+        requires { i < 64 }
+        ensures { self.new ≡ opened_at i used self.old }
     {
-        self.finish_section();
-        let start = i * share;
-        let end = start + share;
-        let used = store_opening(&mut shelf[start..end], line, text);
-        self.records[i] = NameRecord {
-            kept: Kept::Whole,
-            used,
-        };
-        self.current = Some(i);
-    }
-
-    // The line goes on in the share of the open name.
-    pub fn keep(&mut self, i: usize, share: usize, shelf: &mut [u8], line: &[u8])
-        requires index { i < 64 }
-        requires part { i * share + share ≤ length shelf.old }
-        requires room { (record_at self.old i).used + length line.now < share }
-        ensures state { self.new ≡ grown_at i ((record_at self.old i).used + length line.now + 1) self.old }
-        ensures shelf { shelf.new ≡ put (i * share + (record_at self.old i).used) (fed line.now) shelf.old }
-    {
-        let used = self.records[i].used;
-        let start = i * share;
-        let end = start + share;
-        store(&mut shelf[start..end], used, line);
-        self.records[i].used = used + line.len() + 1;
+        self.kept[i] = Kept::Whole(used);
+        self.course = Course::Open(i);
     }
 }

@@ -21,12 +21,7 @@ pub fn target_of<'a>(call: &Call, targets: &'a [u8]) -> &'a [u8]
     ensures { result.now ≡ target_of call.now targets.now }
 {
     match call {
-        Call::Ask { target, .. } => {
-            let part = clip(*target, targets.len());
-            let start = part.at;
-            let end = start + part.len;
-            &targets[start..end]
-        }
-        _ => &targets[0..0],
+        Call::Ask { target, .. } => target.of(targets),
+        _ => &[],
     }
 }

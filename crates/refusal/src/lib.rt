@@ -1,12 +1,14 @@
 // The ways in which a call is turned down, by number and place.
 #![tactic(auto)]
 
-ghost use Rattle.std.specs.Prelude.{◌≡◌, IfOk};
+ghost use Rattle.std.specs.Prelude.{◌≡◌, IfOk, Some};
 ghost use Rattle.refusal.specs.Numbers.{number, place, shown};
 
 use std::alloc::{AllocError, Global};
+use std::error::Error;
+use std::fmt;
 
-#[derive(Clone, Copy, Debug, PartialEq)]
+#[derive(Clone, Copy, Debug, PartialEq, Eq)]
 pub enum Refusal {
     // No names, or one that cannot be asked for beside those before it: its index.
     BadNames(usize),
@@ -31,6 +33,7 @@ pub enum Refusal {
 }
 
 impl Refusal {
+    // The published number of the kind, so that it stays a number.
     pub fn number(&self) -> u8
         ensures { result ≡ number self.now }
     {
@@ -53,23 +56,26 @@ impl Refusal {
         ensures { result ≡ place self.now }
     {
         match self {
-            Refusal::BadNames(i) => *i,
-            Refusal::BadLine(i) => *i,
+            Refusal::BadNames(i) | Refusal::BadLine(i) => *i,
             _ => 0,
         }
     }
 
-    // `refused N at P`.
+    // What the Display writes, as bytes.
     pub fn show(&self, heap: Global) -> Result<Vec<u8>, AllocError>
         ensures { IfOk result (λ v. v.items ≡ shown self.now) }
     {
-        let number = self.number();
-        let place = self.place();
-        let mut words = Vec::new(heap);
-        words.extend_from_slice(b"refused ")?;
-        words.extend_from_slice(format!(in heap; "{number}")?.as_bytes())?;
-        words.extend_from_slice(b" at ")?;
-        words.extend_from_slice(format!(in heap; "{place}")?.as_bytes())?;
-        Ok(words)
+        Ok(format!(in heap; "{self}")?.into_bytes())
     }
 }
+
+// `refused N at P`.
+impl fmt::Display for Refusal {
+    ghost output = { λ r. Some (shown r) };
+
+    fn fmt<W: fmt::Write>(&self, f: &mut fmt::Formatter<W>) -> fmt::Result {
+        write!(f, "refused {} at {}", self.number(), self.place())
+    }
+}
+
+impl Error for Refusal {}

@@ -1,58 +1,43 @@
--- Reading a number digit by digit.
-use Rattle.std.proofs.Common.{◌≡◌, ℕ, ◌+◌, ◌-◌, ◌*◌, ◌^◌, ◌<◌, ◌≤◌, true, false, cond, ◌&&◌, ltb, List, [], ◌∷◌, length, get_or, drop, Some, None, Option, sym, ap, ◌∙◌, inl, inr, arith}
-use Rattle.std.specs.Str.Parse.{digits_value_after}
-use Rattle.std.specs.Char.{is_ascii_digit, digit_value}
-use Rattle.std.specs.Str.{all_ascii_digits}
-use Rattle.std.proofs.lemmas.List.{at_drop_more}
-use Rattle.std.proofs.lemmas.Bool.{cases_Bool, le-ltb, lt-ltb, ltb-false, ltb-true}
+-- Reading a number by the library's `parse`.
+use Rattle.std.proofs.Common.{◌≡◌, ◌≢◌, ℕ, ◌^◌, ◌<◌, true, List, length, get_or, ltb, Some, None, Ok, Err, Result, Bor, inl, inr, arith}
+use Rattle.std.specs.Result.{result_ok, MatchResult, OkIff}
+use Rattle.std.specs.Str.{all_ascii_digits, IsUtf8}
+use Rattle.std.specs.Str.Parse.{digits_value, ParsesUnsigned}
+use Rattle.std.proofs.Math.Bool.{and-false}
+use Rattle.std.proofs.lemmas.Bool.{cases_Bool}
 use Rattle.std.proofs.lemmas.Bool.Decides.{nat_tests}
-use Rattle.reader.proofs.Histories.{and_false}
-use Rattle.replay.specs.Words.{number_of, with_digit}
+use Rattle.std.proofs.lemmas.Fmt.{IsAscii-from_digits}
+use Rattle.std.proofs.lemmas.Str.{IsUtf8-from_ascii}
+use Rattle.std.proofs.lemmas.Str.Parse.{numerals_by_value, parse_plain, tells_all_ascii_digits, IsNumeralModel}
+use Rattle.replay.specs.Words.{number_of}
 
--- go on with a number, if there is one
-abbrev pub onward : Option ℕ → (ℕ → Option ℕ) → Option ℕ
-onward None f = None
-onward (Some n) f = f n
+-- digits and their value are the library's
+own : IsNumeralModel (λ ds. all_ascii_digits ds ≡ true) (digits_value 10)
+own = numerals_by_value _ tells_all_ascii_digits
 
--- the digits to come, behind the number so far
-abbrev pub read_on : List ℕ → ℕ → Option ℕ
-read_on [] n = Some n
-read_on (b ∷ bs) n = onward (with_digit n b) (read_on bs)
+-- a number that is read where a text of digits fits is the text's
+ok_is : {E : Type 0} (text : List ℕ) (r : Result ℕ E) → OkIff r ((all_ascii_digits text ≡ true) × (0 < length text) × (digits_value 10 text < 2 ^ 64)) (digits_value 10 text) → result_ok r ≡ number_of text
+ok_is text (Ok n) h = grind (arith, nat_tests)
+ok_is text (Err e) h = grind (arith, nat_tests)
 
--- a number does not fall by digits behind it
-grows : (n : ℕ) (bs : List ℕ) → n ≤ digits_value_after 10 n bs
-grows n [] = omega arith
-grows n (b ∷ bs) = omega (arith, grows (n * 10 + digit_value b) bs)
+-- what `parse` reads of a text with no sign
+pub parsed_is : {E : Type 0} (text : List ℕ) (r : Result ℕ E) → ParsesUnsigned 64 10 text r → get_or text 0 0 ≢ 43 → result_ok r ≡ number_of text
+parsed_is text r parses plain = ok_is text r (parse_plain own 64 text r parses plain)
 
--- a digit counts from `0`
-digit_value_lem : (b : ℕ) → is_ascii_digit b ≡ true → digit_value b ≡ b - 48
-digit_value_lem b is = grind (arith, nat_tests)
-
--- so one that is too big stays so
-too_big : (n : ℕ) (bs : List ℕ) → 2 ^ 64 ≤ n → ltb (digits_value_after 10 n bs) (2 ^ 64) ≡ false
-too_big n bs big = le-ltb _ _ (omega (arith, grows n bs))
-
--- what is read is the value, where all are digits and it fits
-read_is : (n : ℕ) (bs : List ℕ) → n < 2 ^ 64 →
-    read_on bs n ≡ cond (all_ascii_digits bs && ltb (digits_value_after 10 n bs) (2 ^ 64)) (Some (digits_value_after 10 n bs)) None
-read_is n [] fits = rw (lt-ltb n (2 ^ 64) fits)
-read_is n (b ∷ bs) fits =
-    elim (cases_Bool (is_ascii_digit b)) [
-      | inl t ↦
-          (elim (cases_Bool (ltb (n * 10 + (b - 48)) (2 ^ 64))) [
-            | inl s ↦ rw (t, s, digit_value_lem b t) (read_is (n * 10 + (b - 48)) bs (ltb-true _ _ s))
-            | inr s ↦ rw (t, s, digit_value_lem b t, too_big (n * 10 + (b - 48)) bs (ltb-false _ _ s), and_false (all_ascii_digits bs))
-          ])
-      | inr f ↦ rw f
+-- digits are ASCII, so that a text that is not UTF-8 is no number
+not_text_is : (text : List ℕ) → ¬ (IsUtf8 text) → None ≡ number_of text
+not_text_is text not_utf8 =
+    elim (cases_Bool (all_ascii_digits text)) [
+      | inl t ↦ absurd (not_utf8 (IsUtf8-from_ascii text (IsAscii-from_digits text (own.to text t))))
+      | inr f ↦ rw (f, and-false (ltb 0 (length text)))
     ]
 
--- a text that is not empty
-pub read_all : (text : List ℕ) → 0 < length text → read_on text 0 ≡ number_of text
-read_all text some = rw (lt-ltb 0 (length text) some) (read_is 0 text (omega arith))
+-- what `from_utf8` does not read is no number
+pub unread_is : {X E : Type 0} (text : List ℕ) (r : Result X E) (P : X → Type 0) (Q : E → Type 0) → MatchResult r P (λ e. ¬ (IsUtf8 text) × Q e) → result_ok r ≡ None → None ≡ number_of text
+unread_is text (Ok x) P Q cases e = cc
+unread_is text (Err e) P Q cases is = not_text_is text cases.0
 
--- one digit more, or none
-pub read_more : (text : List ℕ) (n i : ℕ) (next : Option ℕ) → i < length text →
-    read_on (drop i text) n ≡ number_of text → next ≡ with_digit n (get_or text i 0) → onward next (read_on (drop (i + 1) text)) ≡ number_of text
-read_more text n i next more so is =
-    let step : read_on (drop i text) n ≡ onward (with_digit n (get_or text i 0)) (read_on (drop (i + 1) text)) = at_drop_more (λ bs. read_on bs n) text i 0 more in
-    ap (λ o. onward o (read_on (drop (i + 1) text))) is ∙ sym step ∙ so
+-- and what it reads are the bytes
+pub read_is : {E : Type 0} (text : List ℕ) (r : Result (Bor (List ℕ)) E) (s : Bor (List ℕ)) (P : Type 0) (Q : E → Type 0) → MatchResult r (λ t. (t.now ≡ text) × P) Q → result_ok r ≡ Some s → s.now ≡ text
+read_is text (Ok t) s P Q cases is = let same : t ≡ s = cc in rw same at cases.0
+read_is text (Err e) s P Q cases is = cc

@@ -20,10 +20,10 @@ use Rattle.replay.specs.declared.script.RuleName.{RuleName}
 use Rattle.replay.specs.declared.script.Script.{Script}
 
 -- the replies that the calls determine, on memory that holds these bytes
-pub record Shows (q : Setup) (calls : List Call) (shelf targets : List ℕ) (replies : List Reply) (out : List ℕ) : Type 0 where
+pub record Shows (q : Setup) (calls : List Call) (shelf targets : List ℕ) (replies : List (Result Reply Refusal)) (out : List ℕ) : Type 0 where
   pub shelf_end : List ℕ
   pub targets_end : List ℕ
-  pub replies_end : List Reply
+  pub replies_end : List (Result Reply Refusal)
   pub determined : AnswersDetermined q calls shelf shelf_end targets targets_end replies replies_end
   pub shows : out ≡ shown_run targets_end calls replies_end
 
@@ -37,7 +37,7 @@ abbrev pub setup_by : Properties → (List ℕ → Meaning) → Script → Setup
 setup_by fixed meaning script = record { names = texts (vec_items script.names); share = script.share; fixed = fixed; meaning = meaning }
 
 -- what is printed for a script by a rule
-abbrev pub PlaysOn : Properties → (List ℕ → Meaning) → Script → List ℕ → List ℕ → List Reply → List ℕ → Type 0
+abbrev pub PlaysOn : Properties → (List ℕ → Meaning) → Script → List ℕ → List ℕ → List (Result Reply Refusal) → List ℕ → Type 0
 PlaysOn fixed meaning script shelf targets replies out =
     Starting (start_refusal (texts (vec_items script.names)) script.share)
     (Shows (setup_by fixed meaning script) (vec_items script.calls) shelf targets replies out)
@@ -46,7 +46,7 @@ PlaysOn fixed meaning script shelf targets replies out =
 -- shelf and targets begin as dots, and there is a place for the reply to each call
 abbrev pub Plays : Properties → (List ℕ → Meaning) → Script → List ℕ → Type 0
 Plays fixed meaning script out =
-    PlaysOn fixed meaning script (replicate script.shelf 46) (replicate script.room 46) (replicate (length (vec_items script.calls)) Closed) out
+    PlaysOn fixed meaning script (replicate script.shelf 46) (replicate script.room 46) (replicate (length (vec_items script.calls)) (Ok Closed)) out
 
 abbrev pub fixed_by : RuleName → Properties
 fixed_by StarlarkSection = record { strays_end = true; names_lowered = true }

@@ -1,6 +1,7 @@
 -- What a line of a script says.
 use Rattle.std.specs.Prelude.{ℕ, cond, List, Some, None, Ok, Err, codes, Option, Result, nat_le}
 use Rattle.std.specs.Option.{ok_or}
+use Rattle.std.specs.Result.{result_map_both}
 use Rattle.std.specs.Str.{bytes_eq}
 use Rattle.rules.specs.declared.meaning.Place.{Place}
 use Rattle.reader.specs.declared.calls.Call.{Call}
@@ -13,8 +14,7 @@ use Rattle.replay.specs.declared.script.Wrong.TheVariants.{RuleWanted, NotRule, 
 
 -- what was read, seen through f
 abbrev pub said : {T U E : Type 0} → (T → U) → Result T E → Result U E
-said f (Ok x) = Ok (f x)
-said f (Err e) = Err e
+said f = result_map_both f (λ e. e)
 
 -- what was read, read on
 abbrev pub and_then : {T U E : Type 0} → Result T E → (T → Result U E) → Result U E
@@ -29,14 +29,17 @@ rule_named name =
     (cond (bytes_eq name (codes "rust-entry")) (Ok RustEntry)
     (Err NotRule))))
 
+-- what stands behind a word; another word is not what is wanted here
+abbrev pub behind : List ℕ → Wrong → List ℕ → Result (List ℕ) Wrong
+behind word wanted line = cond (bytes_eq (word_of line) word) (Ok (rest_of line)) (Err wanted)
+
 -- `rule NAME`
 abbrev pub rule_of : List ℕ → Result RuleName Wrong
-rule_of line = cond (bytes_eq (word_of line) (codes "rule")) (rule_named (rest_of line)) (Err RuleWanted)
+rule_of line = and_then (behind (codes "rule") RuleWanted line) rule_named
 
--- a word and a number; another word is not what is wanted here
+-- a word and a number
 abbrev pub number_behind : List ℕ → Wrong → List ℕ → Result ℕ Wrong
-number_behind word wanted line =
-    cond (bytes_eq (word_of line) word) (ok_or (number_of (rest_of line)) NotNumber) (Err wanted)
+number_behind word wanted line = and_then (behind word wanted line) (λ text. ok_or (number_of text) NotNumber)
 
 -- the most room that a shelf or a target gets
 abbrev pub most_room : ℕ
@@ -55,7 +58,7 @@ shelf_of line = and_then (number_behind (codes "shelf") ShelfWanted line) (limit
 
 -- `ask NAME`
 abbrev pub name_of : List ℕ → Result (List ℕ) Wrong
-name_of line = cond (bytes_eq (word_of line) (codes "ask")) (Ok (rest_of line)) (Err NameWanted)
+name_of line = behind (codes "ask") NameWanted line
 
 -- a call, by what its line holds
 pub data Said : Type 0 where

@@ -1,5 +1,6 @@
 -- What a whole script says.
 use Rattle.std.specs.Prelude.{◌≡◌, ℕ, ◌+◌, ◌^◌, cond, List, [], ◌∷◌, ◌++◌, map, length, drop, Ok, Err, vec_items, codes, Result, nat_lt, slice_index_or}
+use Rattle.std.specs.Result.{result_map_both}
 use Rattle.std.specs.Str.{bytes_eq}
 use Rattle.text.specs.Lines.{texts}
 use Rattle.replay.specs.Sayings.{and_then, call_of, name_of, rule_of, said_of, share_of, shelf_of, Said, a_line, a_close, an_ask}
@@ -17,9 +18,9 @@ use Rattle.replay.specs.declared.script.Wrong.TheVariants.{RoomsOver, NoStart}
 abbrev pub fault_at : ℕ → Wrong → Fault
 fault_at i wrong = record { line = i + 1; wrong = wrong }
 
+-- what was read from a line, with the line's number where it is wrong
 abbrev pub on_line : {T : Type 0} → ℕ → Result T Wrong → Result T Fault
-on_line i (Ok x) = Ok x
-on_line i (Err wrong) = Err (fault_at i wrong)
+on_line i = result_map_both (λ x. x) (fault_at i)
 
 -- a line before `start`, which must be there
 abbrev pub line_at : ℕ → List (List ℕ) → Result (List ℕ) Fault

@@ -12,6 +12,7 @@ use crate::replay::replay;
 use std::io;
 use std::io::{Read, Write};
 
+// So in both programs: one for both would need a crate of its own, for four lines.
 fn main(rt: HostRuntime) -> io::Result<()> {
     let heap = rt.alloc();
     let mut script = Vec::new(heap);

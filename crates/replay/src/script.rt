@@ -1,18 +1,18 @@
-ghost use Rattle.std.specs.Prelude.{◌≡◌, ◌^◌, ◌<◌, [], length, drop, IfOk};
+ghost use Rattle.std.specs.Prelude.{◌≡◌, ℕ, ◌^◌, ◌<◌, ◌≤◌, List, [], length, drop, IfOk, OnOk, Result};
 ghost use Rattle.text.specs.Lines.{lines_of, texts};
-ghost use Rattle.replay.specs.Sayings.{asked_at, call_of, limited as within_limit, name_of, number_behind, rule_named, rule_of, said, said_of, share_of, shelf_of};
-ghost use Rattle.replay.specs.Scripts.{calls_from, content_in, content_of, fault_at, line_at, names_from, names_in, on_line, read_at, room_with, spoken_in, ReadAs};
+ghost use Rattle.replay.specs.Sayings.{asked_at, behind, call_of, limited as within_limit, name_of, number_behind, rule_named, rule_of, said, said_of, share_of, shelf_of};
+ghost use Rattle.replay.specs.Scripts.{calls_from, content_in, content_of, fault_at, names_from, names_in, read_at, room_with, spoken_in, ReadAs};
 ghost use Rattle.replay.specs.Words.{number_of, rest_of, word_of};
 ghost use Rattle.replay.specs.declared.script.ScriptError.TheVariants.{Memory, Unread};
 
-use crate::words::{is_same, number, split_word};
+use crate::words::{number, split_word};
 use reader::calls::Call;
 use rules::meaning::Place;
 use std::alloc::{AllocError, AllocFailed, Global};
 use text::lines::split_lines;
 
 // The rules by their names in a script.
-#[derive(Clone, Copy)]
+#[derive(Clone, Copy, Debug, PartialEq, Eq)]
 pub enum RuleName {
     StarlarkSection,
     RustSection,
@@ -21,7 +21,7 @@ pub enum RuleName {
 }
 
 // What is wrong with a line of a script.
-#[derive(Clone, Copy)]
+#[derive(Clone, Copy, Debug, PartialEq, Eq)]
 pub enum Wrong {
     RuleWanted,
     NotRule,
@@ -38,19 +38,20 @@ pub enum Wrong {
 }
 
 // What is wrong, and on which line.
-#[derive(Clone, Copy)]
+#[derive(Clone, Copy, Debug, PartialEq, Eq)]
 pub struct Fault {
     pub line: usize,
     pub wrong: Wrong,
 }
 
 // Why there is no script.
-#[derive(Clone, Copy)]
+#[derive(Clone, Copy, Debug, PartialEq, Eq)]
 pub enum ScriptError {
     Memory,
     Unread(Fault),
 }
 
+// The library has two errors for want of memory, and `?` takes each by an impl of its own.
 impl From<AllocError> for ScriptError {
     ghost from_gives = { λ _ r. r ≡ Memory };
 
@@ -96,56 +97,54 @@ fn limited(over: Wrong, n: usize) -> Result<usize, Wrong>
     if n <= ROOM_MOST { Ok(n) } else { Err(over) }
 }
 
-fn rule_named(name: &[u8]) -> Result<RuleName, Wrong>
-    ensures { result ≡ rule_named name.now }
-{
-    if is_same(name, b"starlark-section") {
-        Ok(RuleName::StarlarkSection)
-    } else if is_same(name, b"rust-section") {
-        Ok(RuleName::RustSection)
-    } else if is_same(name, b"starlark-entry") {
-        Ok(RuleName::StarlarkEntry)
-    } else if is_same(name, b"rust-entry") {
-        Ok(RuleName::RustEntry)
-    } else {
-        Err(Wrong::NotRule)
+impl TryFrom<&[u8]> for RuleName {
+    type Error = Wrong;
+
+    ghost try_from_gives = { λ name r. r ≡ rule_named name.now };
+
+    fn try_from(name: &[u8]) -> Result<RuleName, Wrong> {
+        // By ifs: the proof of a match on byte texts does not close.
+        if name == b"starlark-section".as_slice() {
+            Ok(RuleName::StarlarkSection)
+        } else if name == b"rust-section".as_slice() {
+            Ok(RuleName::RustSection)
+        } else if name == b"starlark-entry".as_slice() {
+            Ok(RuleName::StarlarkEntry)
+        } else if name == b"rust-entry".as_slice() {
+            Ok(RuleName::RustEntry)
+        } else {
+            Err(Wrong::NotRule)
+        }
     }
+}
+
+// What stands behind the word that is wanted here.
+fn behind<'a>(wanted: &[u8], other: Wrong, line: &'a [u8]) -> Result<&'a [u8], Wrong>
+    ensures { said (λ x. x.now) result ≡ behind wanted.now other line.now }
+{
+    let (word, rest) = split_word(line);
+    if word == wanted { Ok(rest) } else { Err(other) }
 }
 
 // `rule NAME`.
 fn rule_of(line: &[u8]) -> Result<RuleName, Wrong>
     ensures { result ≡ rule_of line.now }
 {
-    let (word, rest) = split_word(line);
-    if is_same(word, b"rule") {
-        rule_named(rest)
-    } else {
-        Err(Wrong::RuleWanted)
-    }
+    RuleName::try_from(behind(b"rule", Wrong::RuleWanted, line)?)
 }
 
 // The number behind a word; another word is not what is wanted here.
 fn number_behind(wanted: &[u8], other: Wrong, line: &[u8]) -> Result<usize, Wrong>
     ensures { result ≡ number_behind wanted.now other line.now }
 {
-    let (word, rest) = split_word(line);
-    if is_same(word, wanted) {
-        number(rest).ok_or(Wrong::NotNumber)
-    } else {
-        Err(other)
-    }
+    number(behind(wanted, other, line)?).ok_or(Wrong::NotNumber)
 }
 
 // `ask NAME`.
 fn name_of(line: &[u8]) -> Result<&[u8], Wrong>
     ensures { said (λ x. x.now) result ≡ name_of line.now }
 {
-    let (word, rest) = split_word(line);
-    if is_same(word, b"ask") {
-        Ok(rest)
-    } else {
-        Err(Wrong::NameWanted)
-    }
+    behind(b"ask", Wrong::NameWanted, line)
 }
 
 // `INDEX ROOM`, for a target from `at` on.
@@ -167,11 +166,11 @@ fn call_of(at: usize, line: &[u8]) -> Result<Call<'_>, Wrong>
     ensures { said said_of result ≡ call_of at line.now }
 {
     let (word, rest) = split_word(line);
-    if is_same(word, b"line") {
+    if word == b"line".as_slice() {
         Ok(Call::Line(rest))
-    } else if is_same(word, b"body") {
+    } else if word == b"body".as_slice() {
         ask_of(at, rest)
-    } else if is_same(line, b"close") {
+    } else if line == b"close".as_slice() {
         Ok(Call::Close)
     } else {
         Err(Wrong::NotCall)
@@ -187,46 +186,26 @@ impl Fault {
     }
 }
 
-// What was read from the line with this index.
-fn on_line<T>(i: usize, read: Result<T, Wrong>) -> Result<T, Fault>
-    requires { i < 2 ^ 63 }
-    ensures { result ≡ on_line i read }
+// What `read` makes of the line with this index, which must be there: the script has not started yet.
+fn read_at<'a, T, F: FnOnce(&'a [u8]) -> Result<T, Wrong>>(
+    lines: &[&'a [u8]],
+    i: usize,
+    read: F,
+) -> Result<T, Fault>
+    requires { F.IsAlwaysCallable read }
+    ensures value { (f : List ℕ → Result T Wrong) → ((line : _) (r : _) → F.post read line r → r ≡ f line.now) → result ≡ read_at i f (texts lines.now) }
+    ensures there { OnOk result (i < length lines.now) }
 {
-    match read {
-        Ok(x) => Ok(x),
-        Err(wrong) => Err(Fault::at(i, wrong)),
+    match lines.get(i) {
+        Some(line) => read(*line).map_err(|wrong| Fault::at(i, wrong)),
+        None => Err(Fault::at(lines.len(), Wrong::NoStart)),
     }
 }
 
-// A line that must be there, since the script has not started yet.
-fn line_at<'a>(lines: &[&'a [u8]], i: usize) -> Result<&'a [u8], Fault>
-    requires { length lines.now < 2 ^ 63 }
-    ensures { said (λ x. x.now) result ≡ line_at i (texts lines.now) }
+fn share_of(line: &[u8]) -> Result<usize, Wrong>
+    ensures { result ≡ share_of line.now }
 {
-    if i < lines.len() {
-        Ok(lines[i])
-    } else {
-        Err(Fault::at(lines.len(), Wrong::NoStart))
-    }
-}
-
-fn rule_at(lines: &[&[u8]], i: usize) -> Result<RuleName, Fault>
-    requires few { length lines.now < 2 ^ 63 }
-    requires near { i < 2 ^ 63 }
-    ensures { result ≡ read_at i rule_of (texts lines.now) }
-{
-    on_line(i, rule_of(line_at(lines, i)?))
-}
-
-fn share_at(lines: &[&[u8]], i: usize) -> Result<usize, Fault>
-    requires few { length lines.now < 2 ^ 63 }
-    requires near { i < 2 ^ 63 }
-    ensures { result ≡ read_at i share_of (texts lines.now) }
-{
-    on_line(
-        i,
-        number_behind(b"share", Wrong::ShareWanted, line_at(lines, i)?),
-    )
+    number_behind(b"share", Wrong::ShareWanted, line)
 }
 
 fn shelf_of(line: &[u8]) -> Result<usize, Wrong>
@@ -238,14 +217,6 @@ fn shelf_of(line: &[u8]) -> Result<usize, Wrong>
     )
 }
 
-fn shelf_at(lines: &[&[u8]], i: usize) -> Result<usize, Fault>
-    requires few { length lines.now < 2 ^ 63 }
-    requires near { i < 2 ^ 63 }
-    ensures { result ≡ read_at i shelf_of (texts lines.now) }
-{
-    on_line(i, shelf_of(line_at(lines, i)?))
-}
-
 // The names asked for, and the index of the line that says `start`.
 struct Asked<'a> {
     names: Vec<&'a [u8]>,
@@ -253,20 +224,20 @@ struct Asked<'a> {
 }
 
 fn read_names<'a>(heap: Global, lines: &[&'a [u8]], from: usize) -> Result<Asked<'a>, ScriptError>
-    requires { length lines.now < 2 ^ 63 }
+    requires { from ≤ length lines.now }
     ensures read { ReadAs names_in result (names_from (length (texts lines.now)) [] from (drop from (texts lines.now))) }
     ensures within { IfOk result (λ asked. asked.start < length lines.now) }
 {
     let mut names = Vec::new(heap);
-    for i in from..lines.len() {
-        let line = lines[i];
-        if is_same(line, b"start") {
+    for (k, line) in lines[from..].iter().enumerate() {
+        let i = from + k;
+        if *line == b"start".as_slice() {
             return Ok(Asked { names, start: i });
         }
-        let name = on_line(i, name_of(line))?;
+        let name = name_of(*line).map_err(|wrong| Fault::at(i, wrong))?;
         names.push(name)?;
     }
-    Err(ScriptError::Unread(Fault::at(lines.len(), Wrong::NoStart)))
+    Err(Fault::at(lines.len(), Wrong::NoStart).into())
 }
 
 // The room up to the end of a call's target.
@@ -286,16 +257,16 @@ struct Calls<'a> {
 
 // The calls, their targets one behind the other.
 fn read_calls<'a>(heap: Global, lines: &[&'a [u8]], from: usize) -> Result<Calls<'a>, ScriptError>
-    requires { length lines.now < 2 ^ 63 }
+    requires { from ≤ length lines.now }
     ensures { ReadAs spoken_in result (calls_from [] 0 from (drop from (texts lines.now))) }
 {
     let mut calls = Vec::new(heap);
     let mut room = 0;
-    for i in from..lines.len() {
-        let call = on_line(i, call_of(room, lines[i]))?;
-        let next = on_line(i, room_with(room, &call))?;
+    for (k, line) in lines[from..].iter().enumerate() {
+        let i = from + k;
+        let call = call_of(room, *line).map_err(|wrong| Fault::at(i, wrong))?;
+        room = room_with(room, &call).map_err(|wrong| Fault::at(i, wrong))?;
         calls.push(call)?;
-        room = next;
     }
     Ok(Calls { calls, room })
 }
@@ -306,9 +277,9 @@ pub fn read_script<'a>(heap: Global, text: &'a [u8]) -> Result<Script<'a>, Scrip
 {
     let all = split_lines(heap, text)?;
     let lines = all.as_slice();
-    let rule = rule_at(lines, 0)?;
-    let share = share_at(lines, 1)?;
-    let shelf = shelf_at(lines, 2)?;
+    let rule = read_at(lines, 0, rule_of)?;
+    let share = read_at(lines, 1, share_of)?;
+    let shelf = read_at(lines, 2, shelf_of)?;
     let Asked { names, start } = read_names(heap, lines, 3)?;
     let Calls { calls, room } = read_calls(heap, lines, start + 1)?;
     Ok(Script {

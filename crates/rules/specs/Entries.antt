@@ -1,10 +1,10 @@
 -- The entry rules open exactly the lines of their forms.
-use Rattle.std.specs.Prelude.{◌≡◌, ℕ, ◌+◌, ◌-◌, ◌<◌, true, false, cond, ◌&&◌, ◌⊎◌, List, [], ◌∷◌, ◌++◌, length, drop, Some, Option, ◌==◌, ◌≢◌, nat_le, nat_lt, slice_index, refl}
+use Rattle.std.specs.Prelude.{◌≡◌, ℕ, ◌+◌, ◌-◌, ◌<◌, true, false, cond, ◌&&◌, ◌⊎◌, List, [], ◌∷◌, ◌++◌, length, drop, Some, Option, ◌==◌, ◌≢◌, slice_index, refl}
 use Rattle.std.proofs.Common.{inl, inr, sym, ap, subst, ◌∙◌, add-zero, zero-add, arith, length-append}
-use Rattle.std.specs.List.{prefix_len, AllByRecursion}
-use Rattle.std.proofs.ByRecursion.{All-get_or}
+use Rattle.std.specs.List.{prefix_len, All}
 use Rattle.std.proofs.lemmas.List.{get_or_append_left}
-use Rattle.std.proofs.lemmas.Bool.{and_from, and_parts, cases_Bool, eq-eqb, eqb-false, le-leb, leb-true, lt-ltb, ltb-true, ne_eqb}
+use Rattle.std.proofs.lemmas.List.Folds.{length-prefix_len}
+use Rattle.std.proofs.lemmas.Bool.{and_parts, cases_Bool, eq-eqb, eqb-false, le-leb, leb-true, lt-ltb, ltb-true, ne_eqb}
 use Rattle.std.proofs.lemmas.Bool.Decides.{nat_tests}
 use Rattle.text.specs.Bytes.{blank, star, word}
 use Rattle.text.proofs.Leading.{run_passes}
@@ -12,7 +12,7 @@ use Rattle.rules.specs.Forms.{RustItem, StarlarkItem}
 use Rattle.rules.specs.Laws.{Exact, Inside}
 use Rattle.rules.specs.Meanings.{enters_rust, enters_starlark, name_end, resuming, rust_entry, rust_mark, rust_name, stands_at, starlark_entry, starlark_name, text_from}
 use Rattle.rules.specs.Exactness.{Complete, Fitting, Sound, exact, inside}
-use Rattle.rules.specs.Parts.{drop_behind, run_counted, run_cut, run_found, run_stopped, run_at, stands_cut, stands_read, stands_there}
+use Rattle.rules.specs.Parts.{drop_behind, from_three, three_parts, run_cut, run_found, run_stopped, run_at, stands_cut, stands_read, stands_there}
 
 module _ (mark i : ℕ) (line : List ℕ) where
   -- a word with a mark behind it can be cut off, and the mark too
@@ -24,7 +24,7 @@ module _ (mark i : ℕ) (line : List ℕ) where
 
   -- the rules find a word, the mark behind it, and what is behind the mark
   word_found : (called back : List ℕ) → (0 == mark) ≡ false → word mark ≡ false →
-      AllByRecursion (λ b. word b ≡ true) called → drop i line ≡ called ++ mark ∷ back →
+      All (λ b. word b ≡ true) called → drop i line ≡ called ++ mark ∷ back →
       (prefix_len word (drop i line) ≡ length called)
       × (stands_at mark (i + length called) line ≡ true)
       × (drop (i + length called + 1) line ≡ back)
@@ -42,10 +42,10 @@ word_no_star : (b : ℕ) → word b ≡ true → star b ≡ false
 word_no_star b t = grind (arith, nat_tests)
 
 -- what begins with a word does not begin with a star
-word_first : (called back : List ℕ) → 0 < length called → AllByRecursion (λ b. word b ≡ true) called →
+word_first : (called back : List ℕ) → 0 < length called → All (λ b. word b ≡ true) called →
     star (slice_index (called ++ back) 0) ≡ false
 word_first called back some bytes =
-    rw get_or_append_left (word_no_star (slice_index called 0) (All-get_or (λ b. word b ≡ true) called 0 0 some bytes))
+    rw get_or_append_left (word_no_star (slice_index called 0) (bytes 0 0 some))
 
 -- where the text of a Starlark entry starts
 abbrev starlark_text : List ℕ → Option ℕ
@@ -57,14 +57,13 @@ starlark_sound line t =
     let s = (starlark_name line).at in
     let k = (starlark_name line).len in
     let m = s + k + 1 in
-    let few = and_parts (nat_le s 2) (nat_lt 0 k && stands_at 58 (s + k) line) t in
-    let named = and_parts (nat_lt 0 k) (stands_at 58 (s + k) line) few.1 in
+    let tests = three_parts _ _ _ t in
     let stars_cut = rw zero-add at (run_cut star 0 line) in
-    let called_cut = word_cut 58 s line named.1 in
+    let called_cut = word_cut 58 s line tests.2 in
     let blanks_cut = run_cut blank m line in
-    let stars_long = run_counted star 0 line in
-    let called_long = run_counted word s line in
-    let blanks_long = run_counted blank m line in
+    let stars_long = length-prefix_len star line in
+    let called_long = length-prefix_len word (drop s line) in
+    let blanks_long = length-prefix_len blank (drop m line) in
     record {
       stars = run_at star 0 line;
       called = run_at word s line;
@@ -72,8 +71,8 @@ starlark_sound line t =
       rest = drop (text_from m line) line;
       line_is = cc;
       stars_are = run_passes star line;
-      stars_few = omega (arith, leb-true s 2 few.0);
-      called_some = omega (arith, ltb-true 0 k named.0);
+      stars_few = omega (arith, leb-true s 2 tests.0);
+      called_some = omega (arith, ltb-true 0 k tests.1);
       called_bytes = run_passes word (drop s line);
       blanks_are = run_passes blank (drop m line);
       rest_first = run_stopped blank m line refl;
@@ -94,7 +93,7 @@ starlark_complete line n t f =
     let w = word_found 58 s line f.called text refl refl f.called_bytes behind in
     let blanks_long = run_found blank (s + k + 1) line f.blanks f.rest f.blanks_are f.rest_first w.2 in (
       rw (stars_long, w.0)
-          (and_from _ _ (le-leb s 2 f.stars_few) (and_from _ _ (lt-ltb 0 k f.called_some) w.1)),
+          (from_three _ _ _ (le-leb s 2 f.stars_few) (lt-ltb 0 k f.called_some) w.1),
       rw (stars_long, w.0) (sym f.name_is),
       rw (stars_long, w.0, blanks_long) (sym f.text_is),
     )
@@ -132,7 +131,7 @@ bullet_cut : (line : List ℕ) → stands_at 96 ((rust_name line).at - 1) line �
 bullet_cut line quoted =
     elim (cases_Bool (stands_at 42 0 line && stands_at 32 1 line)) [
       | inl t ↦
-          let both = and_parts (stands_at 42 0 line) (stands_at 32 1 line) t in
+          let both = and_parts _ _ t in
           let first = stands_cut 42 0 line both.0 in
           let second = stands_cut 32 1 line both.1 in
           let third = stands_cut 96 2 line (rw t at quoted) in
@@ -178,14 +177,13 @@ rust_sound line t =
     let s = (rust_name line).at in
     let k = (rust_name line).len in
     let m = rust_mark line in
-    let quoted = and_parts (stands_at 96 (s - 1) line) (nat_lt 0 k && stands_at 96 (s + k) line) t in
-    let named = and_parts (nat_lt 0 k) (stands_at 96 (s + k) line) quoted.1 in
-    let b = bullet_cut line quoted.0 in
+    let tests = three_parts _ _ _ t in
+    let b = bullet_cut line tests.0 in
     let c = colon_cut (s + k + 1) line in
-    let called_cut = word_cut 96 s line named.1 in
+    let called_cut = word_cut 96 s line tests.2 in
     let blanks_cut = run_cut blank m line in
-    let called_long = run_counted word s line in
-    let blanks_long = run_counted blank m line in
+    let called_long = length-prefix_len word (drop s line) in
+    let blanks_long = length-prefix_len blank (drop m line) in
     record {
       bullet = b.0;
       called = run_at word s line;
@@ -194,7 +192,7 @@ rust_sound line t =
       rest = drop (text_from m line) line;
       line_is = cc;
       bullet_is = b.1;
-      called_some = omega (arith, ltb-true 0 k named.0);
+      called_some = omega (arith, ltb-true 0 k tests.1);
       called_bytes = run_passes word (drop s line);
       colon_is = subst (Colon c.0) blanks_cut c.1;
       blanks_are = run_passes blank (drop m line);
@@ -220,7 +218,7 @@ rust_complete line n t f =
     let marked = drop_behind e line f.colon text w.2 in
     let m = e + length f.colon in
     let blanks_long = run_found blank m line f.blanks f.rest f.blanks_are f.rest_first marked in (
-      rw (at_name, w.0) (and_from _ _ quote (and_from _ _ (lt-ltb 0 k f.called_some) w.1)),
+      rw (at_name, w.0) (from_three _ _ _ quote (lt-ltb 0 k f.called_some) w.1),
       rw (at_name, w.0) (sym f.name_is),
       rw (at_name, w.0, colon_long, blanks_long) (sym f.text_is),
     )

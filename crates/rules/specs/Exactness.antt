@@ -1,6 +1,6 @@
 -- How a rule's test, name and text make its meaning exact.
 use Rattle.std.specs.Prelude.{◌≡◌, ℕ, Bool, true, false, cond, List, Option, ◌≢◌}
-use Rattle.std.proofs.Common.{inl, inr, subst, arith}
+use Rattle.std.proofs.Common.{inl, inr, subst}
 use Rattle.std.proofs.lemmas.Bool.{cases_Bool}
 use Rattle.rules.specs.Laws.{Exact, Inside}
 use Rattle.rules.specs.Meanings.{meant}
@@ -10,8 +10,8 @@ use Rattle.rules.specs.declared.meaning.Place.{Place}
 
 -- what does not open opens nothing
 never_opens : (goes : Bool) (name : Place) (text : Option ℕ) → cond goes Continues Stray ≢ Opens name text
-never_opens true name text e = let z : ◌≡◌ {A = ℕ} 0 1 = cc in omega arith
-never_opens false name text e = let z : ◌≡◌ {A = ℕ} 0 1 = cc in omega arith
+never_opens true name text e = cc
+never_opens false name text e = cc
 
 -- how a line looks that opens a name at a place, with or without a text
 abbrev Form : Type 1

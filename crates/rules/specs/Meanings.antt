@@ -52,8 +52,12 @@ heads_starlark line =
     let n : ℕ = prefix_len title_byte line in
     nat_lt 0 n && (not (stands_at 32 0 line) && (stands_at 58 n line && blank_from (n + 1) line))
 
+-- up to where the title bytes end
+abbrev pub starlark_title : List ℕ → Place
+starlark_title line = record { at = 0; len = prefix_len title_byte line }
+
 abbrev pub starlark_section : List ℕ → Meaning
-starlark_section line = meant (heads_starlark line) record { at = 0; len = prefix_len title_byte line } None (resuming line)
+starlark_section line = meant (heads_starlark line) (starlark_title line) None (resuming line)
 
 -- ---- Rust sections: `# Args`
 

@@ -1,26 +1,23 @@
 -- The section rules open exactly the lines of their forms.
-use Rattle.std.specs.Prelude.{◌≡◌, ℕ, ◌+◌, ◌<◌, ◌≤◌, true, not, ◌&&◌, List, [], ◌∷◌, ◌++◌, length, take, drop, None, Option, ◌==◌, nat_lt, slice_index, refl}
-use Rattle.std.proofs.Common.{append_assoc, inl, inr, ⊎_elim, sym, ap, subst, ◌∙◌, zero-add, arith, length-append}
-use Rattle.std.specs.List.{prefix_len, AllByRecursion}
-use Rattle.std.proofs.ByRecursion.{All-append}
+use Rattle.std.specs.Prelude.{◌≡◌, ℕ, ◌+◌, ◌<◌, ◌≤◌, true, List, [], ◌∷◌, ◌++◌, length, take, drop, None, Option, ◌==◌, slice_index, refl}
+use Rattle.std.proofs.Common.{append_assoc, inl, inr, ⊎_elim, sym, ap, ◌∙◌, zero-add, arith, length-append}
+use Rattle.std.specs.List.{prefix_len}
+use Rattle.std.proofs.lemmas.List.Elements.{All-append, All-same}
+use Rattle.std.proofs.lemmas.List.Folds.{length-prefix_len}
 use Rattle.std.proofs.lemmas.List.{get_or_append_left, get_or-take, nil_from_length, take_at}
-use Rattle.std.proofs.lemmas.Bool.{and_from, and_parts, cases_Bool, eqb-false, eqb-true, lt-ltb, ltb-true, ne_eqb, not_from_false, not-true}
+use Rattle.std.proofs.lemmas.Bool.{cases_Bool, eqb-false, eqb-true, lt-ltb, ltb-true, ne_eqb, not_from_false, not-true}
 use Rattle.text.specs.Bytes.{space}
 use Rattle.text.specs.Trims.{stripped}
 use Rattle.text.proofs.Leading.{run_passes}
 use Rattle.text.proofs.Strips.{strip_all, strips, strips_only}
 use Rattle.rules.specs.Forms.{RustHeading, StarlarkHeading, TitleOf}
 use Rattle.rules.specs.Laws.{Exact, Inside}
-use Rattle.rules.specs.Meanings.{always, blank_from, heads_rust, heads_starlark, resuming, rust_run, rust_section, rust_title, stands_at, starlark_section, title_byte, title_in}
+use Rattle.rules.specs.Meanings.{always, blank_from, heads_rust, heads_starlark, resuming, rust_run, rust_section, rust_title, stands_at, starlark_section, starlark_title, title_byte, title_in}
 use Rattle.rules.specs.declared.meaning.Place.{Place}
 use Rattle.rules.specs.Exactness.{exact, inside, Complete, Fitting, Sound}
-use Rattle.rules.specs.Parts.{blank_cut, blank_there, run_counted, run_cut, run_found, run_stopped, run_at, stands_cut, stands_read, stands_there}
+use Rattle.rules.specs.Parts.{blank_cut, blank_there, four_parts, from_four, run_cut, run_found, run_stopped, run_at, stands_cut, stands_read, stands_there}
 
 -- ---- Starlark sections
-
--- the title of a line, by where its run of title bytes ends
-abbrev starlark_title : List ℕ → Place
-starlark_title line = record { at = 0; len = prefix_len title_byte line }
 
 -- sections have no text
 abbrev textless : List ℕ → Option ℕ
@@ -30,14 +27,12 @@ textless line = None
 starlark_sound : Sound StarlarkHeading resuming heads_starlark starlark_title textless
 starlark_sound line t =
     let n = prefix_len title_byte line in
-    let some = and_parts (nat_lt 0 n) (not (stands_at 32 0 line) && (stands_at 58 n line && blank_from (n + 1) line)) t in
-    let first = and_parts (not (stands_at 32 0 line)) (stands_at 58 n line && blank_from (n + 1) line) some.1 in
-    let marked = and_parts (stands_at 58 n line) (blank_from (n + 1) line) first.1 in
-    let more = ltb-true 0 n some.0 in
+    let tests = four_parts _ _ _ _ t in
+    let more = ltb-true 0 n tests.0 in
     let title_cut = rw zero-add at (run_cut title_byte 0 line) in
-    let title_long = run_counted title_byte 0 line in
-    let colon = (stands_cut 58 n line marked.0).1 in
-    let no_space = sym (stands_read 32 0 line refl) ∙ not-true (stands_at 32 0 line) first.0 in
+    let title_long = length-prefix_len title_byte line in
+    let colon = (stands_cut 58 n line tests.2).1 in
+    let no_space = sym (stands_read 32 0 line refl) ∙ not-true (stands_at 32 0 line) tests.1 in
     record {
       title = run_at title_byte 0 line;
       rest = drop (n + 1) line;
@@ -45,7 +40,7 @@ starlark_sound line t =
       title_some = omega arith;
       title_bytes = run_passes title_byte line;
       title_first = rw (get_or-take n line 0 0 more) no_space;
-      rest_blank = (blank_cut (n + 1) line marked.1).1;
+      rest_blank = (blank_cut (n + 1) line tests.3).1;
       name_is = rw title_long;
       text_is = refl;
     }
@@ -60,8 +55,7 @@ starlark_complete line n t f =
     let front = append_assoc f.title (58 ∷ []) f.rest in
     let blanks = rw (front, ← f.line_is) at (blank_there (k + 1) (f.title ++ 58 ∷ []) f.rest (length-append f.title (58 ∷ [])) f.rest_blank) in (
       rw title_long
-          (and_from _ _ (lt-ltb 0 k f.title_some)
-          (and_from _ _ (not_from_false _ (stands_read 32 0 line refl ∙ first)) (and_from _ _ colon blanks))),
+          (from_four _ _ _ _ (lt-ltb 0 k f.title_some) (not_from_false _ (stands_read 32 0 line refl ∙ first)) colon blanks),
       rw title_long (sym f.name_is),
       sym f.text_is,
     )
@@ -91,7 +85,7 @@ title_is run =
           (let empty = nil_from_length (stripped space run) (eqb-true (length (stripped space run)) 0 none) in
           let whole : run ≡ s.front ++ s.back = s.whole ∙ ap (λ rest. s.front ++ (rest ++ s.back)) empty in
           let spaces = All-append (λ b. space b ≡ true) s.front s.back s.front_passes s.back_passes in
-          inl (subst (AllByRecursion (λ b. space b ≡ true)) (sym whole) spaces, rw none))
+          inl (All-same (λ b. space b ≡ true) run (s.front ++ s.back) whole spaces, rw none))
       | inr some ↦
           (let more : 0 < length (stripped space run) = omega (arith, eqb-false (length (stripped space run)) 0 some) in
           let front = (strips_only space run (stripped space run) s more).0 in
@@ -112,21 +106,19 @@ title_only run name t =
 rust_sound : Sound RustHeading always heads_rust rust_title textless
 rust_sound line t =
     let n = rust_run line in
-    let hash = and_parts (stands_at 35 0 line) (stands_at 32 1 line && (nat_lt 0 n && blank_from (2 + n) line)) t in
-    let gap = and_parts (stands_at 32 1 line) (nat_lt 0 n && blank_from (2 + n) line) hash.1 in
-    let some = and_parts (nat_lt 0 n) (blank_from (2 + n) line) gap.1 in
-    let first = (stands_cut 35 0 line hash.0).1 in
-    let second = (stands_cut 32 1 line gap.0).1 in
+    let tests = four_parts _ _ _ _ t in
+    let first = (stands_cut 35 0 line tests.0).1 in
+    let second = (stands_cut 32 1 line tests.1).1 in
     let run_is = run_cut title_byte 2 line in
-    let run_long = run_counted title_byte 2 line in
+    let run_long = length-prefix_len title_byte (drop 2 line) in
     record {
       run = run_at title_byte 2 line;
       rest = drop (2 + n) line;
       line_is = cc;
-      run_some = omega (arith, ltb-true 0 n some.0);
+      run_some = omega (arith, ltb-true 0 n tests.2);
       run_bytes = run_passes title_byte (drop 2 line);
       run_longest = run_stopped title_byte 2 line refl;
-      rest_blank = (blank_cut (2 + n) line some.1).1;
+      rest_blank = (blank_cut (2 + n) line tests.3).1;
       name_is = title_is (run_at title_byte 2 line);
       text_is = refl;
     }
@@ -141,7 +133,7 @@ rust_complete line n t f =
     let hash = ap (stands_at 35 0) f.line_is ∙ stands_there 35 0 [] (32 ∷ (f.run ++ f.rest)) refl in
     let gap = ap (stands_at 32 1) f.line_is ∙ stands_there 32 1 (35 ∷ []) (f.run ++ f.rest) refl in
     let blanks = ap (blank_from (2 + k)) f.line_is ∙ blank_there (2 + k) (35 ∷ 32 ∷ f.run) f.rest (omega arith) f.rest_blank in (
-      rw run_long (and_from _ _ hash (and_from _ _ gap (and_from _ _ (lt-ltb 0 k f.run_some) blanks))),
+      rw run_long (from_four _ _ _ _ hash gap (lt-ltb 0 k f.run_some) blanks),
       ap title_in run_is ∙ title_only f.run n f.name_is,
       sym f.text_is,
     )

@@ -4,30 +4,30 @@ ghost use Rattle.rules.specs.declared.meaning.Meaning.TheVariants.{Continues, St
 
 use crate::meaning::Meaning;
 use text::bytes::{Blank, ByteClass, Word};
+use text::dedent::is_blank_line;
 use text::runs::run_from;
 
 // Is byte `i` of the line a `b`?
 pub fn stands_at(line: &[u8], i: usize, b: u8) -> bool
     ensures { result ≡ stands_at b i line.now }
 {
-    i < line.len() && line[i] == b
+    line.get(i) == Some(&b)
 }
 
 // Do only blanks stand from `from` on?
 pub fn is_blank_from(line: &[u8], from: usize) -> bool
     ensures { result ≡ blank_from from line.now }
 {
-    from <= line.len() && run_from::<Blank>(line, from) == line.len() - from
+    line.get(from..).is_some_and(is_blank_line)
 }
 
 // What a line is that opens nothing: one that is empty or begins with a blank continues.
 pub fn unopened(line: &[u8]) -> Meaning
     ensures { result ≡ (if resuming line.now then Continues else Stray) }
 {
-    if line.is_empty() || Blank::has(line[0]) {
-        Meaning::Continues
-    } else {
-        Meaning::Stray
+    match line {
+        [b, ..] if !Blank::has(*b) => Meaning::Stray,
+        _ => Meaning::Continues,
     }
 }
 

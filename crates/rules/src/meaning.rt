@@ -1,12 +1,24 @@
+ghost use Rattle.std.specs.Prelude.{◌≡◌, take, drop};
+
 // A part of a line: `len` bytes from `at`.
-#[derive(Clone, Copy, Debug, PartialEq)]
+#[derive(Clone, Copy, Debug, PartialEq, Eq)]
 pub struct Place {
     pub at: usize,
     pub len: usize,
 }
 
+impl Place {
+    // The bytes at the place, as far as `bytes` has them.
+    pub fn of(self, bytes: &[u8]) -> &[u8]
+        ensures { result.now ≡ take self.len (drop self.at bytes.now) }
+    {
+        let rest = &bytes[self.at.min(bytes.len())..];
+        &rest[..self.len.min(rest.len())]
+    }
+}
+
 // What a rule makes of a line.
-#[derive(Clone, Copy, Debug, PartialEq)]
+#[derive(Clone, Copy, Debug, PartialEq, Eq)]
 pub enum Meaning {
     // The line opens the name at the place given; its text, where the rule has one, starts at `text`.
     Opens { name: Place, text: Option<usize> },
@@ -17,7 +29,7 @@ pub enum Meaning {
 }
 
 // What is fixed for every line that a rule is asked about.
-#[derive(Clone, Copy, Debug, PartialEq)]
+#[derive(Clone, Copy, Debug, PartialEq, Eq)]
 pub struct Properties {
     pub strays_end: bool,
     pub names_lowered: bool,

@@ -11,10 +11,12 @@ pub trait LineRule {
     // Does a stray end what is open?
     const STRAYS_END: bool;
 
+    ghost STRAYS_END: { Bool };
+
     // Are names lowered before they are looked up?
     const NAMES_LOWERED: bool;
 
-    ghost fixed: { Properties };
+    ghost NAMES_LOWERED: { Bool };
 
     ghost meaning: { List ℕ → Meaning };
 
@@ -24,14 +26,20 @@ pub trait LineRule {
     // Which of the other lines continue.
     ghost resumes: { List ℕ → Bool };
 
-    // The two constants, for code over any rule.
-    fn properties() -> Properties
-        ensures { result ≡ fixed };
-
     fn ask(&self, line: &[u8]) -> Meaning
         ensures { result ≡ meaning line.now };
 
     ghost inside: { (line : List ℕ) → Inside line (meaning line) };
 
     ghost exact: { Exact form resumes meaning };
+
+    // The two constants, for code over any rule.
+    final fn properties() -> Properties
+        ensures { result ≡ record { strays_end = STRAYS_END; names_lowered = NAMES_LOWERED } }
+    {
+        Properties {
+            strays_end: Self::STRAYS_END,
+            names_lowered: Self::NAMES_LOWERED,
+        }
+    }
 }

@@ -1,28 +1,20 @@
 -- Where a line cannot be read.
-use Rattle.std.proofs.Common.{◌≡◌, ℕ, ◌<◌, ◌≤◌, min, true, false, List, length, get_or, Some, None, sym, refl, subst, inl, inr, ⊎_elim, arith}
-use Rattle.std.specs.List.{prefix_len, AllByRecursion}
-use Rattle.std.proofs.ByRecursion.{All-take}
+use Rattle.std.proofs.Common.{◌≡◌, ℕ, ◌<◌, ◌≤◌, min, true, false, List, length, get_or, Some, None, refl, subst, inl, inr, ⊎_elim, arith}
+use Rattle.std.specs.List.{prefix_len, All}
+use Rattle.std.proofs.lemmas.List.Elements.{All-take}
 use Rattle.std.proofs.lemmas.List.{take-take}
 use Rattle.std.proofs.lemmas.List.Sums.{prefix_len-le-length}
-use Rattle.std.proofs.lemmas.Bool.{cases_lt, cond_above, cond_below}
+use Rattle.std.proofs.lemmas.Bool.{cases_lt}
 use Rattle.text.specs.Bytes.{plain}
-use Rattle.text.specs.Lines.{fault_of, Reads}
+use Rattle.text.specs.Lines.{Reads}
 use Rattle.text.proofs.Leading.{all_pass, run_passes, run_stops}
 
 module _ (line : List ℕ) (good : ℕ) (run : good ≡ min (prefix_len plain line) 1000) where
-  -- bytes are left behind the good ones
-  pub fault_there : good < length line → Some good ≡ fault_of line
-  fault_there more = subst (λ g. g < length line → Some g ≡ fault_of line) (sym run) (λ h. cond_below _ _ _ _ h) more
-
-  -- none are
-  pub fault_nowhere : length line ≤ good → None ≡ fault_of line
-  fault_nowhere all = cond_above _ _ _ _ _ (subst (λ g. length line ≤ g) run all) refl
-
   -- the place is the first byte that is not plain, or 1,000
   pub reads_to : good < length line → Reads line (Some good)
   reads_to more = (
     more,
-    subst (AllByRecursion (λ b. plain b ≡ true)) (take-take good (prefix_len plain line) line (omega arith)) (All-take (λ b. plain b ≡ true) good _ (run_passes plain line)),
+    subst (All (λ b. plain b ≡ true)) (take-take good (prefix_len plain line) line (omega arith)) (All-take (λ b. plain b ≡ true) good _ (run_passes plain line)),
     ⊎_elim
         (λ few. let here : prefix_len plain line ≡ good = omega arith in inr (omega arith, subst (λ k. plain (get_or line k 0) ≡ false) here (run_stops plain refl line)))
         (λ many. inl (omega arith))

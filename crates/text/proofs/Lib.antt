@@ -1,8 +1,9 @@
 pub mod Ends
+pub mod Escapes
 pub mod Faults
 pub mod Leading
 pub mod Margins
+pub mod Shared
 pub mod Splits
-pub mod Steps
 pub mod Strips
 pub mod Writes

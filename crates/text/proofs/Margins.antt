@@ -1,20 +1,25 @@
 -- What a dedent takes off.
-use Rattle.std.proofs.Common.{◌≡◌, ℕ, zero, suc, ◌+◌, ◌-◌, ◌<◌, ◌≤◌, Bool, true, false, eqb, List, [], ◌∷◌, ◌++◌, map, length, get_or, take, drop, replicate, Some, None, fold, Option, unwrap_or, sym, refl, ap, ◌∙◌, inl, inr, append_assoc, zero-add, one-add, arith}
-use Rattle.std.specs.List.{common_prefix_len, prefix_len, AllByRecursion}
-use Rattle.std.proofs.ByRecursion.{All-append, All-drop, All-from_get_or, All-get_or, All-map, All-weaker}
+use Rattle.std.proofs.Common.{◌≡◌, ℕ, suc, ◌+◌, ◌-◌, ◌<◌, ◌≤◌, Bool, true, false, eqb, List, [], ◌∷◌, ◌++◌, map, length, get_or, take, drop, replicate, Some, None, fold, Option, unwrap_or, sym, refl, ap, subst, ◌∙◌, inl, inr, append_assoc, one-add, arith}
+use Rattle.std.specs.List.{common_prefix_len, prefix_len, All}
+use Rattle.std.proofs.lemmas.List.Elements.{All-append, All-cons, All-drop, All-from_get_or, All-head, All-map, All-nil, All-replicate, All-tail, All-take, All-weaker}
 use Rattle.std.proofs.lemmas.List.Prefix.{front_fits, front_rest}
-use Rattle.std.proofs.lemmas.List.{append-nil, ext_get_or, get_or-map, length-append, length-drop, length-map, length-replicate, take-append-drop}
+use Rattle.std.proofs.lemmas.List.{append-nil, ext_get_or, get_or-map, length-append, length-drop, length-map, length-replicate, take_at, take-append-drop}
+use Rattle.std.proofs.lemmas.List.Folds.{prefix_len-append}
 use Rattle.std.proofs.lemmas.List.Sums.{prefix_len-le-length}
 use Rattle.std.proofs.lemmas.Bool.{both_ways, cases_Bool, cond_both, eq-eqb, eqb-true, eqb-false, ne_eqb}
 use Rattle.text.specs.Bytes.{blank}
 use Rattle.text.specs.Dedents.{blank_line, indent, less, meeting, narrowed, margin_of, dedent_lines, dedented, Shared, Dedents}
 use Rattle.text.specs.Lines.{inside, lines_of, unlines}
-use Rattle.text.proofs.Leading.{run_passes}
-use Rattle.text.proofs.Splits.{lines_apart, lines_split, lines_unlines}
+use Rattle.text.proofs.Leading.{run_all, run_passes}
+use Rattle.text.proofs.Splits.{lines_apart, lines_split, lines_unlines, Apart}
 
 -- the text has the run as a front
 abbrev Begins : List ℕ → List ℕ → Type 0
 Begins text run = text ≡ run ++ drop (length run) text
+
+-- a line with more than blanks has the run as a front
+abbrev Has : List ℕ → List ℕ → Type 0
+Has run line = blank_line line ≡ false → Begins line run
 
 -- a run is a front of the text that it makes with a rest
 begins_run : (text run rest : List ℕ) → text ≡ run ++ rest → Begins text run
@@ -39,21 +44,21 @@ begins_cons : (t r : ℕ) (ts rs : List ℕ) → Begins (t ∷ ts) (r ∷ rs) �
 begins_cons t r ts rs b = (cc, cc)
 
 -- what holds of each byte of a text holds of each byte of a front
-begins_all : (P : ℕ → Type 0) (text run : List ℕ) → Begins text run → AllByRecursion P text → AllByRecursion P run
-begins_all P text [] b all = tt
-begins_all P [] (r ∷ rs) b all = absurd (begins_none r rs b)
-begins_all P (t ∷ ts) (r ∷ rs) b all =
-    let e = begins_cons t r ts rs b in
-    (rw (← e.0) all.0, begins_all P ts rs e.1 all.1)
+begins_all : (P : ℕ → Type 0) (text run : List ℕ) → Begins text run → All P text → All P run
+begins_all P text run b all =
+    let front : take (length run) text ≡ run = ap (take (length run)) b ∙ take_at run (drop (length run) text) (length run) refl in
+    subst (All P) front (All-take P (length run) text all)
 
 -- a front that passes a test is a front of the longest that does
-begins_leading : (p : ℕ → Bool) (text run : List ℕ) → AllByRecursion (λ b. p b ≡ true) run → Begins text run →
+begins_leading : (p : ℕ → Bool) (text run : List ℕ) → All (λ b. p b ≡ true) run → Begins text run →
     Begins (take (prefix_len p text) text) run
 begins_leading p text [] pass b = refl
 begins_leading p [] (r ∷ rs) pass b = absurd (begins_none r rs b)
 begins_leading p (t ∷ ts) (r ∷ rs) pass b =
     let e = begins_cons t r ts rs b in
-    rw (e.0, pass.0, one-add) (ap (λ bs. r ∷ bs) (begins_leading p ts rs pass.1 e.1))
+    let first = All-head (λ b. p b ≡ true) r rs pass in
+    let rest = begins_leading p ts rs (All-tail (λ b. p b ≡ true) r rs pass) e.1 in
+    rw (e.0, first, one-add) (ap (λ bs. r ∷ bs) rest)
 
 -- what a text has in common with another is a front of the other too
 begins_common : (xs ys : List ℕ) → Begins ys (take (common_prefix_len eqb xs ys) xs)
@@ -75,7 +80,7 @@ begins_both (x ∷ xs) (y ∷ ys) (r ∷ rs) b c =
 
 -- the runs that may still be the margin: any blanks before there is one, and then its fronts
 abbrev Within : Option (List ℕ) → List ℕ → Type 0
-Within None run = AllByRecursion (λ b. blank b ≡ true) run
+Within None run = All (λ b. blank b ≡ true) run
 Within (Some margin) run = Begins margin run
 
 -- a run that may be the margin, and that the line begins with, is a front of what the two share
@@ -102,41 +107,32 @@ folded_keeps : (o : Option (List ℕ)) (lines : List (List ℕ)) (run : List ℕ
     Within o run → Shared run lines → Within (fold narrowed o lines) run
 folded_keeps o [] run w shared = w
 folded_keeps o (l ∷ ls) run w shared =
+    let here = All-head (Has run) l ls shared in
+    let rest = All-tail (Has run) l ls shared in
     elim (cases_Bool (blank_line l)) [
-      | inl t ↦ rw t (folded_keeps o ls run w shared.1)
-      | inr f ↦ rw f (folded_keeps (Some (meeting o l)) ls run (meet_keeps o l run w (shared.0 f)) shared.1)
+      | inl t ↦ rw t (folded_keeps o ls run w rest)
+      | inr f ↦ rw f (folded_keeps (Some (meeting o l)) ls run (meet_keeps o l run w (here f)) rest)
     ]
 
 -- a run that may be the margin behind the lines is such a run
 folded_cuts : (o : Option (List ℕ)) (lines : List (List ℕ)) (run : List ℕ) →
     Within (fold narrowed o lines) run → Within o run × Shared run lines
-folded_cuts o [] run w = (w, tt)
+folded_cuts o [] run w = (w, All-nil (Has run))
 folded_cuts o (l ∷ ls) run w =
     elim (cases_Bool (blank_line l)) [
       | inl t ↦
           let rest = folded_cuts o ls run (rw t at w) in
-          (rest.0, (λ f. absurd (both_ways (blank_line l) f t), rest.1))
+          (rest.0, All-cons (Has run) l ls (λ f. absurd (both_ways (blank_line l) f t)) rest.1)
       | inr f ↦
           let rest = folded_cuts (Some (meeting o l)) ls run (rw f at w) in
           let here = meet_cuts o l run rest.0 in
-          (here.0, (λ g. here.1, rest.1))
+          (here.0, All-cons (Has run) l ls (λ g. here.1) rest.1)
     ]
 
 -- the margin found is one of the runs that may be it
 within_itself : (o : Option (List ℕ)) → Within o (unwrap_or o [])
-within_itself None = tt
+within_itself None = All-nil (λ b. blank b ≡ true)
 within_itself (Some margin) = begins_run margin margin [] (sym (append-nil margin))
-
--- any number of spaces are blanks
-spaces_blank : (n : ℕ) → AllByRecursion (λ b. blank b ≡ true) (replicate n 32)
-spaces_blank zero = tt
-spaces_blank (suc n) = (refl, spaces_blank n)
-
--- a line with more than blanks begins with what the lines share
-shared_at : (run : List ℕ) (lines : List (List ℕ)) → Shared run lines →
-    (k : ℕ) → k < length lines → blank_line (get_or lines k []) ≡ false → Begins (get_or lines k []) run
-shared_at run lines shared k there more =
-    All-get_or (λ l. blank_line l ≡ false → Begins l run) lines k [] there shared more
 
 -- where a line has more than blanks, no run that may be the margin is longer than the one found
 within_longest : (o : Option (List ℕ)) (lines : List (List ℕ)) →
@@ -147,15 +143,15 @@ within_longest None lines shares run w k there more =
     let line = get_or lines k [] in
     let n = suc (length line) in
     let spaces : List ℕ = replicate n 32 in
-    let b = shared_at spaces lines (shares spaces (spaces_blank n)) k there more in
+    let b = shares spaces (All-replicate (λ b. blank b ≡ true) n 32 refl) k [] there more in
     let fits = front_fits line spaces (drop (length spaces) line) b in
     absurd (omega (arith, length-replicate {A = ℕ} n 32))
 within_longest (Some margin) lines shares run w k there more = front_fits margin run (drop (length run) margin) w
 
 -- blanks put before a line add their number to its indent
-indent_behind : (run rest : List ℕ) → AllByRecursion (λ b. blank b ≡ true) run → indent (run ++ rest) ≡ length run + indent rest
-indent_behind [] rest blanks = sym (zero-add (indent rest))
-indent_behind (b ∷ bs) rest blanks = let i = indent_behind bs rest blanks.1 in rw blanks.0 (omega arith)
+indent_behind : (run rest : List ℕ) → All (λ b. blank b ≡ true) run → indent (run ++ rest) ≡ length run + indent rest
+indent_behind run rest blanks =
+    rw (prefix_len-append, eq-eqb (indent run) (length run) (run_all blank run blanks))
 
 -- a line with more than blanks is not empty
 more_some : (line : List ℕ) → blank_line line ≡ false → eqb (length line) 0 ≡ false
@@ -166,7 +162,7 @@ more_some line more =
 -- lines less a run of blanks that they share, be it the longest or not
 record Takes (before after : List (List ℕ)) : Type 0 where
   run : List ℕ
-  run_blank : AllByRecursion (λ b. blank b ≡ true) run
+  run_blank : All (λ b. blank b ≡ true) run
   run_shared : Shared run before
   lines : after ≡ map (less (length run)) before
 
@@ -183,7 +179,7 @@ module _ (before after : List (List ℕ)) (taken : Takes before after) where
   module _ (k : ℕ) (there : k < length before) (more : blank_line (get_or before k []) ≡ false) where
     -- a line with more than blanks was the run and what is left
     taken_off : get_or before k [] ≡ taken.run ++ get_or after k []
-    taken_off = shared_at taken.run before taken.run_shared k there more ∙ sym (rw (taken_at k there, more))
+    taken_off = taken.run_shared k [] there more ∙ sym (rw (taken_at k there, more))
 
     -- it stood as much further to the right as the run is long
     taken_indent : indent (get_or before k []) ≡ length taken.run + indent (get_or after k [])
@@ -232,10 +228,9 @@ dedents_lines lines =
 
 -- a line without line feeds has none when some bytes are taken off
 less_apart : (width : ℕ) (line : List ℕ) →
-    AllByRecursion (λ b. inside b ≡ true) line → AllByRecursion (λ b. inside b ≡ true) (less width line)
+    Apart line → Apart (less width line)
 less_apart width line apart =
-    let Apart : List ℕ → Type 0 = AllByRecursion (λ b. inside b ≡ true) in
-    cond_both (blank_line line) [] (drop width line) Apart (λ t. tt)
+    cond_both (blank_line line) [] (drop width line) Apart (λ t. All-nil (λ b. inside b ≡ true))
     (λ f. All-drop (λ b. inside b ≡ true) width line apart)
 
 -- lines that lose bytes come to no more
@@ -254,16 +249,11 @@ outdented_fits width text =
     (λ t. simp length-append (omega arith)) (λ f. omega arith) in
     omega (arith, unlines_fit width (lines_of text), ap length (lines_split text).whole)
 
--- so does a dedented text
-pub dedented_fits : (text : List ℕ) → length (dedented text) ≤ length text + 1
-dedented_fits text = outdented_fits (length (margin_of (lines_of text))) text
-
 -- the lines of a dedented text are its lines less their margin
 lines_dedented : (text : List ℕ) → lines_of (dedented text) ≡ dedent_lines (lines_of text)
 lines_dedented text =
     let lines = lines_of text in
     let width = length (margin_of lines) in
-    let Apart : List ℕ → Type 0 = AllByRecursion (λ b. inside b ≡ true) in
     let apart = All-weaker Apart (λ l. Apart (less width l)) (less_apart width) lines (lines_apart text) in
     lines_unlines (dedent_lines lines) (All-map Apart (less width) lines apart)
 
@@ -293,7 +283,7 @@ module _ (before after last : List (List ℕ)) (first : Dedents before after) (a
   no_margin : (k : ℕ) → k < length before → blank_line (get_or before k []) ≡ false → length again.margin ≡ 0
   no_margin k there more =
       let m = first.margin in let n = again.margin in
-      let shared = All-from_get_or (λ l. blank_line l ≡ false → Begins l (m ++ n)) before [] both_margins in
+      let shared = All-from_get_or (Has (m ++ n)) before [] both_margins in
       let blanks = All-append (λ b. blank b ≡ true) m n first.margin_blank again.margin_blank in
       omega (arith, first.margin_longest (m ++ n) blanks shared k there more, length-append m n)
 

@@ -1,10 +1,9 @@
 -- What the lines of a text are.
-use Rattle.std.proofs.Common.{◌≡◌, ℕ, ◌+◌, ◌-◌, ◌<◌, min, true, false, eqb, List, [], ◌∷◌, ◌++◌, length, get_or, take, drop, Some, sym, refl, ap, ◌∙◌, inl, inr, append_assoc, add-one, sub-one, one-add, arith, length-drop, length-take}
-use Rattle.std.specs.List.{prefix_len, AllByRecursion}
-use Rattle.std.proofs.lemmas.List.{take_rest}
+use Rattle.std.proofs.Common.{◌≡◌, ℕ, ◌+◌, ◌<◌, true, false, eqb, List, [], ◌∷◌, ◌++◌, length, get_or, take, drop, Some, sym, refl, ap, ◌∙◌, inl, inr, append_assoc, add-one, sub-one, one-add, arith, length-drop, length-take}
+use Rattle.std.specs.List.{prefix_len, All}
+use Rattle.std.proofs.lemmas.List.Elements.{All-cons, All-head, All-nil, All-tail}
 use Rattle.std.proofs.lemmas.List.Sums.{prefix_len-le-length}
 use Rattle.std.proofs.lemmas.Bool.{cases_Bool, eqb-true, not-false}
-use Rattle.text.proofs.Ends.{drop_min}
 use Rattle.text.specs.Lines.{inside, before, lines_of, unlines, ended, Cuts, Splits}
 
 -- the first line is what stands before the first line feed
@@ -19,30 +18,35 @@ lines_cut (b ∷ c ∷ cs) some =
     ]
 
 -- the first line and the rest behind its line feed, which may be wanting at the end of the text
-pub line_cut : (text : List ℕ) (end next : ℕ) → 0 < length text →
-    end ≡ prefix_len inside text → next ≡ min (end + 1) (length text) →
-    Cuts text (Some (take (end - 0) text, take (length text - next) (drop next text)))
-line_cut text end next some run e =
-    let cut = lines_cut text some in
-    let all : end - 0 ≡ end = omega arith in
-    let rest = take_rest text next in
+pub line_cut : (text line rest : List ℕ) → 0 < length text →
+    line ≡ take (prefix_len inside text) text → rest ≡ drop (prefix_len inside text + 1) text → Cuts text (Some (line, rest))
+line_cut text line rest some front back =
+    let end = prefix_len inside text in
     let wide : length (take end text) ≡ end = omega (arith, length-take end text, prefix_len-le-length inside text) in
-    let behind = drop_min text (end + 1) next e in
-    (cc, cc, simp length-take (simp length-drop (omega arith)))
+    let short = length-drop (end + 1) text in
+    rw (front, back) (lines_cut text some, ap (λ n. drop (n + 1) text) (sym wide), omega arith)
+
+-- a byte that is no line feed
+abbrev Inside : ℕ → Type 0
+Inside b = inside b ≡ true
+
+-- a line that holds no line feed
+abbrev pub Apart : List ℕ → Type 0
+Apart line = All Inside line
 
 -- lines stay without line feeds when another byte is put before the first
-before_apart : (b : ℕ) (ls : List (List ℕ)) → inside b ≡ true →
-    AllByRecursion (λ l. AllByRecursion (λ b. inside b ≡ true) l) ls → AllByRecursion (λ l. AllByRecursion (λ b. inside b ≡ true) l) (before b ls)
-before_apart b [] t apart = ((t, tt), tt)
-before_apart b (l ∷ ls) t apart = ((t, apart.0), apart.1)
+before_apart : (b : ℕ) (ls : List (List ℕ)) → Inside b → All Apart ls → All Apart (before b ls)
+before_apart b [] t apart = All-cons Apart (b ∷ []) [] (All-cons Inside b [] t (All-nil Inside)) apart
+before_apart b (l ∷ ls) t apart =
+    All-cons Apart (b ∷ l) ls (All-cons Inside b l t (All-head Apart l ls apart)) (All-tail Apart l ls apart)
 
 -- no line holds a line feed
-pub lines_apart : (text : List ℕ) → AllByRecursion (λ l. AllByRecursion (λ b. inside b ≡ true) l) (lines_of text)
-lines_apart [] = tt
+pub lines_apart : (text : List ℕ) → All Apart (lines_of text)
+lines_apart [] = All-nil Apart
 lines_apart (b ∷ bs) =
     elim (cases_Bool (inside b)) [
       | inl t ↦ rw t (before_apart b (lines_of bs) t (lines_apart bs))
-      | inr f ↦ rw f (tt, lines_apart bs)
+      | inr f ↦ rw f (All-cons Apart [] (lines_of bs) (All-nil Inside) (lines_apart bs))
     ]
 
 -- what no line may hold is a line feed
@@ -70,16 +74,16 @@ pub lines_split : (text : List ℕ) → Splits text (lines_of text)
 lines_split text = record { apart = lines_apart text; whole = lines_whole text }
 
 -- a text that begins with a line and a line feed has that line and then those of the rest
-lines_behind : (line rest : List ℕ) → AllByRecursion (λ b. inside b ≡ true) line →
-    lines_of (line ++ 10 ∷ rest) ≡ line ∷ lines_of rest
+lines_behind : (line rest : List ℕ) → Apart line → lines_of (line ++ 10 ∷ rest) ≡ line ∷ lines_of rest
 lines_behind [] rest apart = refl
-lines_behind (b ∷ bs) rest apart = rw (apart.0, lines_behind bs rest apart.1)
+lines_behind (b ∷ bs) rest apart = rw (All-head Inside b bs apart, lines_behind bs rest (All-tail Inside b bs apart))
 
 -- lines without line feeds, put together, are the lines of the text that they make
-pub lines_unlines : (lines : List (List ℕ)) → AllByRecursion (λ l. AllByRecursion (λ b. inside b ≡ true) l) lines →
-    lines_of (unlines lines) ≡ lines
+pub lines_unlines : (lines : List (List ℕ)) → All Apart lines → lines_of (unlines lines) ≡ lines
 lines_unlines [] apart = refl
-lines_unlines (l ∷ ls) apart = rw append_assoc (rw (lines_behind l (unlines ls) apart.0, lines_unlines ls apart.1))
+lines_unlines (l ∷ ls) apart =
+    let first = lines_behind l (unlines ls) (All-head Apart l ls apart) in
+    rw append_assoc (rw (first, lines_unlines ls (All-tail Apart l ls apart)))
 
 -- a text splits into its lines only
 pub lines_only : (text : List ℕ) (lines : List (List ℕ)) → Splits text lines → lines ≡ lines_of text

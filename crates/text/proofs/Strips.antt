@@ -1,36 +1,44 @@
 -- What stripping leaves and takes.
-use Rattle.std.proofs.Common.{◌≡◌, ℕ, ◌+◌, ◌-◌, ◌<◌, ◌≤◌, Bool, true, false, List, [], ◌++◌, reverse, length, get_or, take, drop, sym, ap, ◌∙◌, ⊎_elim, add-zero, arith, length-append, length-drop}
-use native.Mathlib.Nat.{sub-zero}
-use Rattle.std.specs.List.{prefix_len, suffix_len, AllByRecursion}
-use Rattle.std.proofs.ByRecursion.{All-from_get_or, All-get_or}
-use Rattle.std.proofs.lemmas.List.{drop_all, drop_at, get_or_append_left, get_or-drop, get_or-reverse, get_or-take, get_or_past, length-reverse, length-take-le, reverse-append, take_at, take_rest, take-append-drop}
+use Rattle.std.proofs.Common.{◌≡◌, ℕ, ◌-◌, ◌<◌, ◌≤◌, Bool, true, false, List, [], ◌∷◌, ◌++◌, reverse, length, get_or, take, drop, sym, refl, ap, ◌∙◌, ⊎_elim, add-zero, arith, length-append, length-drop}
+use Rattle.std.specs.List.{prefix_len, suffix_len, All}
+use Rattle.std.proofs.lemmas.List.Sorted.{All-permutation, IsPermutation-reverse}
+use Rattle.std.proofs.lemmas.List.{drop_all, drop_at, get_or_append_left, get_or-drop, get_or-reverse, get_or-take, get_or_past, length-reverse, length-take-le, reverse-append, reverse-reverse, take_at, take-append-drop}
 use Rattle.std.proofs.lemmas.List.Sums.{suffix_len-le-length}
 use Rattle.std.proofs.lemmas.Bool.{cases_lt}
 use Rattle.text.specs.Trims.{shortened, stripped, Strips}
 use Rattle.text.proofs.Leading.{run_all, run_length, run_passes, run_stops}
 
--- the two cuts that the code makes
-pub cuts_strip : (p : ℕ → Bool) (text : List ℕ) (front back : ℕ) → front ≡ prefix_len p text → back ≡ suffix_len p (take (length text - front) (drop front text)) → take (length (take (length text - front) (drop front text)) - back - 0) (take (length text - front) (drop front text)) ≡ stripped p text
-cuts_strip p text front back f b = let e = take_rest text front in let z = sub-zero (length (take (length text - front) (drop front text)) - back) in cc
+-- a text less its last n bytes, and those bytes, by the text turned round
+turned : (n : ℕ) (xs : List ℕ) → n ≤ length xs →
+    (take (length xs - n) xs ≡ reverse (drop n (reverse xs))) × (drop (length xs - n) xs ≡ reverse (take n (reverse xs)))
+turned n xs fits =
+    let front = reverse (drop n (reverse xs)) in
+    let back = reverse (take n (reverse xs)) in
+    let whole : xs ≡ front ++ back =
+    sym (reverse-reverse xs) ∙ ap reverse (sym (take-append-drop n (reverse xs))) ∙ reverse-append (take n (reverse xs)) (drop n (reverse xs)) in
+    let long : length front ≡ length xs - n = simp (length-reverse, length-drop) in (
+      ap (take (length xs - n)) whole ∙ take_at front back (length xs - n) long,
+      ap (drop (length xs - n)) whole ∙ drop_at front back (length xs - n) long,
+    )
+
+-- turned round, a text ends with its first byte
+last_first : (xs : List ℕ) → get_or (reverse xs) (length (reverse xs) - 1) 0 ≡ get_or xs 0 0
+last_first [] = refl
+last_first (x ∷ xs) =
+    let long = length-reverse (x ∷ xs) in
+    let there : length (x ∷ xs) - 1 - (length (reverse (x ∷ xs)) - 1) ≡ 0 = omega arith in
+    get_or-reverse (x ∷ xs) (length (reverse (x ∷ xs)) - 1) 0 (omega arith) ∙ ap (λ i. get_or (x ∷ xs) i 0) there
 
 module _ (p : ℕ → Bool) where
-  -- a byte of the run at the end passes
-  at_end : (xs : List ℕ) (k : ℕ) → k < length xs → length xs - suffix_len p xs ≤ k → p (get_or xs k 0) ≡ true
-  at_end xs k inside last =
-      let j : ℕ = length xs - 1 - k in
-      let few = suffix_len-le-length p xs in
-      let long = length-take-le (suffix_len p xs) (reverse xs) (rw length-reverse few) in
-      let back = get_or-reverse xs j 0 (omega arith) in
-      let there : length xs - 1 - j ≡ k = omega arith in
-      let passes = All-get_or (λ b. p b ≡ true) (take (suffix_len p xs) (reverse xs)) j 0 (omega arith) (run_passes p (reverse xs)) in
-      let same = get_or-take (suffix_len p xs) (reverse xs) j 0 (omega arith) in
-      cc
+  -- bytes that pass, in the other order
+  all_reverse : (xs : List ℕ) → All (λ b. p b ≡ true) xs → All (λ b. p b ≡ true) (reverse xs)
+  all_reverse xs pass = All-permutation (λ b. p b ≡ true) xs (reverse xs) (IsPermutation-reverse xs) pass
 
   -- the bytes that come off at the end pass
-  end_passes : (xs : List ℕ) → AllByRecursion (λ b. p b ≡ true) (drop (length xs - suffix_len p xs) xs)
+  end_passes : (xs : List ℕ) → All (λ b. p b ≡ true) (drop (length xs - suffix_len p xs) xs)
   end_passes xs =
-      let m : ℕ = length xs - suffix_len p xs in
-      All-from_get_or (λ b. p b ≡ true) (drop m xs) 0 (λ i inside. rw get_or-drop (at_end xs (m + i) (omega (arith, length-drop m xs)) (omega arith)))
+      rw ((turned (suffix_len p xs) xs (suffix_len-le-length p xs)).1)
+      (all_reverse (take (suffix_len p xs) (reverse xs)) (run_passes p (reverse xs)))
 
   module _ (none : p 0 ≡ false) where
     -- a byte that does not pass, at a place before the run at the end
@@ -43,14 +51,7 @@ module _ (p : ℕ → Bool) where
     -- the last byte that stays does not pass
     end_stops : (xs : List ℕ) → p (get_or (shortened p xs) (length (shortened p xs) - 1) 0) ≡ false
     end_stops xs =
-        let m : ℕ = length xs - suffix_len p xs in
-        let long = length-take-le m xs (omega arith) in
-        kept xs (length (shortened p xs) - 1) (λ lt.
-        let few = suffix_len-le-length p xs in
-        let back = get_or-reverse xs (suffix_len p xs) 0 (omega arith) in
-        let there : length xs - 1 - suffix_len p xs ≡ length (shortened p xs) - 1 = omega arith in
-        let stops = run_stops p none (reverse xs) in
-        cc)
+        rw ((turned (suffix_len p xs) xs (suffix_len-le-length p xs)).0, last_first, get_or-drop, add-zero) (run_stops p none (reverse xs))
 
     -- what is stripped off passes, and what is left begins and ends with a byte that does not
     pub strips : (text : List ℕ) → Strips p text (stripped p text)
@@ -67,17 +68,10 @@ module _ (p : ℕ → Bool) where
         }
 
   -- a text that passes is stripped to nothing
-  pub strip_all : (text : List ℕ) → AllByRecursion (λ b. p b ≡ true) text → stripped p text ≡ []
+  pub strip_all : (text : List ℕ) → All (λ b. p b ≡ true) text → stripped p text ≡ []
   strip_all text pass =
       let none = drop_all (prefix_len p text) text (omega (arith, run_all p text pass)) in
       ap (shortened p) none
-
-  -- bytes that pass, in the other order
-  all_reverse : (xs : List ℕ) → AllByRecursion (λ b. p b ≡ true) xs → AllByRecursion (λ b. p b ≡ true) (reverse xs)
-  all_reverse xs pass =
-      All-from_get_or (λ b. p b ≡ true) (reverse xs) 0 (λ i inside.
-      let long = length-reverse xs in
-      rw (get_or-reverse xs i 0 (omega arith)) (All-get_or (λ b. p b ≡ true) xs (length xs - 1 - i) 0 (omega arith) pass))
 
   -- there is one way to strip a text that has a byte left
   pub strips_only : (text rest : List ℕ) (s : Strips p text rest) → 0 < length rest → (prefix_len p text ≡ length s.front) × (stripped p text ≡ rest)

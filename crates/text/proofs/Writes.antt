@@ -1,11 +1,9 @@
 -- Lines written behind one another into the front of a buffer.
-use Rattle.std.proofs.Common.{◌≡◌, ℕ, ◌+◌, ◌-◌, ◌<◌, ◌≤◌, cond, ltb, List, [], ◌∷◌, ◌++◌, map, length, get_or, take, drop, set, Some, None, Option, sym, ap, ◌∙◌, arith}
+use Rattle.std.proofs.Common.{◌≡◌, ℕ, ◌+◌, ◌-◌, ◌<◌, ◌≤◌, cond, List, [], ◌∷◌, ◌++◌, map, length, get_or, take, drop, set, Some, None, sym, ap, ◌∙◌, arith}
 use borrow.Rule.Slice.PartMut.{put_mid}
-use Rattle.std.proofs.lemmas.List.{append_assoc, append-nil, drop_at, drop-drop, drop_more, length-append, length-drop, length_push, length-take-le, set_at, take-append-drop, take_at, take-take}
-use Rattle.std.proofs.lemmas.Bool.{cond-true, lt-ltb}
-use Rattle.text.specs.Dedents.{dedented, less, margin_of}
-use Rattle.text.specs.Lines.{lines_of, unlines}
-use Rattle.text.proofs.Margins.{dedented_fits}
+use Rattle.std.proofs.lemmas.List.{append_assoc, drop_at, drop-drop, drop_more, length-append, length-drop, length_push, length-take-le, set_at, take_at}
+use Rattle.std.proofs.lemmas.Bool.{cond_below}
+use Rattle.text.specs.Lines.{fed, has_room, put, unlines}
 
 -- a line copied to the place `at`, and a line feed behind it
 pub line_put : (out line part : List ℕ) (at : ℕ) → part ≡ line → at + length line < length out →
@@ -24,68 +22,64 @@ line_put out line part at same room =
     let d = append_assoc (take at out) line (10 ∷ []) in
     cc
 
+-- there was room for it
+pub line_put_there : (out line part : List ℕ) (at end : ℕ) → end ≡ at + length line → part ≡ line → end < length out →
+    set (put_mid at (end - at) out part) end 10 ≡ cond (has_room at line out) (put at (fed line) out) out
+line_put_there out line part at end there same room =
+    let fits : at + length line < length out = omega arith in
+    let past : at + length line + 1 ≡ at + length (fed line) = omega (arith, length_push line 10) in
+    rw there (
+    line_put out line part at same fits
+    ∙ append_assoc (take at out) (fed line) (drop (at + length line + 1) out)
+    ∙ ap (λ n. take at out ++ (fed line ++ drop n out)) past
+    ∙ cond_below (at + length line) (length out) (put at (fed line) out) out fits
+    )
+
 -- the first of some lines, changed by `f`, and its line feed come before the others
 pub unlines_first : (f : List ℕ → List ℕ) (lines after : List (List ℕ)) (line put : List ℕ) → lines ≡ line ∷ after → put ≡ f line →
-    unlines (map f lines) ≡ (put ++ 10 ∷ []) ++ unlines (map f after)
+    unlines (map f lines) ≡ fed put ++ unlines (map f after)
 unlines_first f lines after line put cut same = rw (cut, same)
 
--- `out` was `start`; its front is what has been written of `whole`, `left` is still to come, and the rest is as it was
-abbrev pub Written : List ℕ → List ℕ → List ℕ → List ℕ → ℕ → Type 0
-Written start whole out left at = (take at out ++ left ≡ whole) × (drop at out ≡ drop at start) × (at ≤ length out)
+-- `out` was `start`, and has room for `whole`; its front is what has been written of that, `left` is still to come,
+-- and the rest is as it was
+pub record Written (start whole out left : List ℕ) (at : ℕ) : Type 0 where
+  pub front : take at out ++ left ≡ whole
+  pub behind : drop at out ≡ drop at start
+  pub within : at ≤ length out
+  pub room : length whole ≤ length out
 
-module _ (start whole out left : List ℕ) (at : ℕ) (so_far : Written start whole out left at) where
-  -- where the whole fits, the next line does
-  pub written_room : (line after : List ℕ) → left ≡ (line ++ 10 ∷ []) ++ after → length whole ≤ length out → at + length line < length out
-  written_room line after e fits =
-      let all = sym (ap length so_far.0) ∙ length-append (take at out) left in
-      let next = ap length e ∙ length-append (line ++ 10 ∷ []) after in
-      omega (arith, length-take-le at out so_far.2, length_push line 10)
+module _ {start whole out left : List ℕ} {at : ℕ} (so_far : Written start whole out left at) (line after : List ℕ) (cut : left ≡ fed line ++ after) where
+  -- the next line fits
+  line_fits : at + length line < length out
+  line_fits =
+      let all = ap length (sym so_far.front) ∙ length-append (take at out) left in
+      let next = ap length cut ∙ length-append (fed line) after in
+      let front = length-take-le at out so_far.within in
+      let room = so_far.room in
+      omega (arith, length_push line 10)
 
   -- one line more
-  pub written_more : (line after now : List ℕ) (next : ℕ) → left ≡ (line ++ 10 ∷ []) ++ after → at + length line < length out →
-      next ≡ at + length line + 1 → now ≡ take at out ++ (line ++ 10 ∷ []) ++ drop next out →
-      Written start whole now after next
-  written_more line after now next e room is put =
-      let front : length (take at out ++ (line ++ 10 ∷ [])) ≡ next =
-      omega (arith, length-append (take at out) (line ++ 10 ∷ []), length-take-le at out so_far.2, length_push line 10) in
-      let took = take_at (take at out ++ (line ++ 10 ∷ [])) (drop next out) next front in
-      let rest = drop_at (take at out ++ (line ++ 10 ∷ [])) (drop next out) next front in
-      let join = append_assoc (take at out) (line ++ 10 ∷ []) after in
-      let long = ap length put ∙ length-append (take at out ++ (line ++ 10 ∷ [])) (drop next out) in
-      let to : next ≡ at + (length line + 1) = omega arith in
-      let past = drop-drop (length line + 1) at out in
-      let was = drop-drop (length line + 1) at start in
-      (let w = so_far.0 in cc, let w = so_far.1 in cc, omega (arith, length-drop next out))
-
--- all lines written
-pub written_all : (start whole out left : List ℕ) (at : ℕ) → Written start whole out left at → left ≡ [] →
-    (at ≡ length whole) × (out ≡ whole ++ drop at start)
-written_all start whole out left at so_far none =
-    let w = so_far.0 in
-    let v = so_far.1 in
-    let join = append-nil (take at out) in
-    let cut = take-append-drop at out in
-    let long = length-take-le at out so_far.2 in
-    (cc, cc)
-
--- the lines written less the margin are the dedented text
-pub dedented_written : (text start out : List ℕ) (width n : ℕ) → width ≡ length (margin_of (lines_of text)) → n ≡ length (unlines (map (less width) (lines_of text))) → out ≡ unlines (map (less width) (lines_of text)) ++ drop n start → (n ≡ length (dedented text)) × (out ≡ dedented text ++ drop (length (dedented text)) start)
-dedented_written text start out width n margin long e = (cc, cc)
-
--- a buffer with a byte more than the text has room for it, dedented; cut to the length given it is that text
-pub dedented_kept : (text start out more kept : List ℕ) (wide n : ℕ) (given : Option ℕ) → wide ≡ length text + 1 → length start ≡ wide →
-    given ≡ cond (ltb (length text) (length start)) (Some (length (dedented text))) None → given ≡ Some n →
-    out ≡ cond (ltb (length text) (length start)) (dedented text ++ drop (length (dedented text)) start) start →
-    kept ≡ take n (take wide (out ++ more)) → kept ≡ dedented text
-dedented_kept text start out more kept wide n given is long value got written e =
-    let whole = dedented text in
-    let rest = drop (length whole) start in
-    let room = lt-ltb (length text) (length start) (omega arith) in
-    let some = cond-true (ltb (length text) (length start)) (Some (length whole)) None room in
-    let here = cond-true (ltb (length text) (length start)) (whole ++ rest) start room in
-    let same : n ≡ length whole = cc in
-    let fits : n ≤ wide = omega (arith, dedented_fits text) in
-    let cut = take-take n wide (out ++ more) fits in
-    let join = append_assoc whole rest more in
-    let front = take_at whole (rest ++ more) n (sym same) in
-    cc
+  pub written_more : (now : List ℕ) (next : ℕ) → Some next ≡ cond (has_room at line out) (Some (at + length line + 1)) None →
+      now ≡ cond (has_room at line out) (put at (fed line) out) out → Written start whole now after next
+  written_more now next given is =
+      let wide : at + length (fed line) ≡ at + length line + 1 = omega (arith, length_push line 10) in
+      let there = cond_below (at + length line) (length out) (Some (at + length line + 1)) None line_fits in
+      let to : next ≡ at + length (fed line) = cc in
+      let here = cond_below (at + length line) (length out) (put at (fed line) out) out line_fits in
+      let ends = length-take-le at out so_far.within in
+      let join = append_assoc (take at out) (fed line) after in
+      let again = append_assoc (take at out) (fed line) (drop next out) in
+      let front : length (take at out ++ fed line) ≡ next = omega (arith, length-append (take at out) (fed line)) in
+      let took = take_at (take at out ++ fed line) (drop next out) next front in
+      let rest = drop_at (take at out ++ fed line) (drop next out) next front in
+      let past = drop-drop (length (fed line)) at out in
+      let was = drop-drop (length (fed line)) at start in
+      let both = length-append (take at out ++ fed line) (drop next out) in
+      let long : length now ≡ length (take at out ++ fed line) + length (drop next out) = cc in
+      let same : length now ≡ length out = omega (arith, length-drop next out, line_fits) in
+      record {
+        front = (let w = so_far.front in cc);
+        behind = (let w = so_far.behind in cc);
+        within = omega (arith, line_fits);
+        room = (let r = so_far.room in omega arith);
+      }

@@ -1,14 +1,22 @@
 -- The kinds of byte that the rules speak of.
-use Rattle.std.specs.Prelude.{ℕ, ◌+◌, Bool, cond, ◌&&◌, ◌||◌, ◌==◌, nat_le}
+use Rattle.std.specs.Prelude.{ℕ, ◌+◌, Bool, cond, not, ◌&&◌, ◌||◌, ◌==◌, nat_le}
 
 abbrev pub within : ℕ → ℕ → ℕ → Bool
 within low high b = nat_le low b && nat_le b high
 
+-- one byte and no other
+abbrev pub only : ℕ → ℕ → Bool
+only byte b = b == byte
+
+-- any byte but one
+abbrev pub except : ℕ → ℕ → Bool
+except byte b = not (b == byte)
+
 abbrev pub space : ℕ → Bool
-space b = b == 32
+space b = only 32 b
 
 abbrev pub star : ℕ → Bool
-star b = b == 42
+star b = only 42 b
 
 -- a tab or a space
 abbrev pub blank : ℕ → Bool

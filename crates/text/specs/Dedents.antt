@@ -1,7 +1,7 @@
 -- Taking from some lines the indent that they share.
 use Rattle.std.specs.Prelude.{◌≡◌, ℕ, ◌+◌, ◌<◌, ◌≤◌, Bool, true, false, cond, List, [], ◌++◌, map, length, take, drop, Some, None, fold, Option, ◌==◌, nat_eq, slice_index_or}
 use Rattle.std.specs.Option.{unwrap_or}
-use Rattle.std.specs.List.{common_prefix_len, prefix_len, AllByRecursion}
+use Rattle.std.specs.List.{common_prefix_len, prefix_len, All}
 use Rattle.text.specs.Bytes.{blank}
 use Rattle.text.specs.Lines.{lines_of, unlines}
 
@@ -38,15 +38,15 @@ dedented text = unlines (dedent_lines (lines_of text))
 
 -- every line that has more than blanks begins with the run
 abbrev pub Shared : List ℕ → List (List ℕ) → Type 0
-Shared run lines = AllByRecursion (λ l. blank_line l ≡ false → l ≡ run ++ drop (length run) l) lines
+Shared run lines = All (λ l. blank_line l ≡ false → l ≡ run ++ drop (length run) l) lines
 
 -- What a dedent does to lines, by what is taken off and not by how it is found.
 pub record Dedents (before after : List (List ℕ)) : Type 0 where
   pub margin : List ℕ
-  pub margin_blank : AllByRecursion (λ b. blank b ≡ true) margin
+  pub margin_blank : All (λ b. blank b ≡ true) margin
   pub margin_shared : Shared margin before
   -- no longer run of blanks is shared, wherever there is a line to share it
-  pub margin_longest : (run : List ℕ) → AllByRecursion (λ b. blank b ≡ true) run → Shared run before → (k : ℕ) → k < length before → blank_line (slice_index_or before k []) ≡ false → length run ≤ length margin
+  pub margin_longest : (run : List ℕ) → All (λ b. blank b ≡ true) run → Shared run before → (k : ℕ) → k < length before → blank_line (slice_index_or before k []) ≡ false → length run ≤ length margin
   -- the same lines in the same order, each less the margin or, of blanks, empty
   pub lines : after ≡ map (less (length margin)) before
   -- a line comes out empty exactly when it is blanks only

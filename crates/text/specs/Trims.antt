@@ -1,6 +1,6 @@
 -- Taking bytes of one kind off the ends of a text.
 use Rattle.std.specs.Prelude.{◌≡◌, ℕ, ◌-◌, Bool, true, false, List, ◌++◌, length, take, drop, slice_index}
-use Rattle.std.specs.List.{prefix_len, suffix_len, AllByRecursion}
+use Rattle.std.specs.List.{prefix_len, suffix_len, All}
 use Rattle.text.specs.Bytes.{white}
 
 -- less the bytes at its end that pass
@@ -20,7 +20,7 @@ pub record Strips (p : ℕ → Bool) (text rest : List ℕ) : Type 0 where
   pub front : List ℕ
   pub back : List ℕ
   pub whole : text ≡ front ++ (rest ++ back)
-  pub front_passes : AllByRecursion (λ b. p b ≡ true) front
-  pub back_passes : AllByRecursion (λ b. p b ≡ true) back
+  pub front_passes : All (λ b. p b ≡ true) front
+  pub back_passes : All (λ b. p b ≡ true) back
   pub first_stays : p (slice_index rest 0) ≡ false
   pub last_stays : p (slice_index rest (length rest - 1)) ≡ false

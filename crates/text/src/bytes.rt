@@ -1,5 +1,5 @@
 ghost use Rattle.std.specs.Prelude.{◌≡◌, ℕ, Bool, map, IfOk};
-ghost use Rattle.text.specs.Bytes.{blank, white, word, plain, lowered};
+ghost use Rattle.text.specs.Bytes.{only, except, blank, white, word, plain, lowered};
 
 use std::alloc::{AllocError, Global};
 
@@ -9,6 +9,28 @@ pub trait ByteClass {
 
     fn has(b: u8) -> bool
         ensures { result ≡ member b };
+}
+
+// The byte `B` and no other.
+pub struct Only<const B: u8>;
+
+impl<const B: u8> ByteClass for Only<B> {
+    ghost member = { only B };
+
+    fn has(b: u8) -> bool {
+        b == B
+    }
+}
+
+// Any byte but `B`.
+pub struct Except<const B: u8>;
+
+impl<const B: u8> ByteClass for Except<B> {
+    ghost member = { except B };
+
+    fn has(b: u8) -> bool {
+        b != B
+    }
 }
 
 // A tab or a space.
@@ -59,19 +81,12 @@ impl ByteClass for Plain {
 pub fn lower_byte(b: u8) -> u8
     ensures { result ≡ lowered b }
 {
-    match b {
-        b'A'..=b'Z' => b + 32,
-        _ => b,
-    }
+    b.to_ascii_lowercase()
 }
 
 // `name` with its ASCII capitals as small letters.
 pub fn lower(heap: Global, name: &[u8]) -> Result<Vec<u8>, AllocError>
     ensures { IfOk result (λ v. v.items ≡ map lowered name.now) }
 {
-    let mut small = Vec::new(heap);
-    for b in name {
-        small.push(lower_byte(*b))?;
-    }
-    Ok(small)
+    name.iter().map(|b| lower_byte(*b)).collect(heap)
 }

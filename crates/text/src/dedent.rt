@@ -5,7 +5,7 @@ ghost use Rattle.text.specs.Dedents.{blank_line, dedented, less, margin_of, meet
 ghost use Rattle.text.specs.Lines.{lines_of, unlines};
 
 use crate::bytes::Blank;
-use crate::lines::split_line;
+use crate::lines::{lines, put_line};
 use crate::runs::run_from;
 use std::alloc::{AllocError, Global};
 
@@ -21,11 +21,7 @@ fn shared_len(a: &[u8], b: &[u8]) -> usize
     ensures value { result ≡ common_prefix_len nat_eq a.now b.now }
     ensures within { result ≤ length a.now }
 {
-    let mut n = 0;
-    while n < a.len() && n < b.len() && a[n] == b[n] {
-        n += 1;
-    }
-    n
+    a.iter().zip(b).take_while(|(x, y)| x == y).count()
 }
 
 // The indent of the first line that counts, and then what is left of it beside each further one.
@@ -43,12 +39,10 @@ fn margin(text: &[u8]) -> Option<&[u8]>
     ensures { option_map (λ x. x.now) result ≡ fold narrowed None (lines_of text.now) }
 {
     let mut margin: Option<&[u8]> = None;
-    let mut rest = text;
-    while let Some((line, behind)) = split_line(rest) {
+    for line in lines(text) {
         if !is_blank_line(line) {
             margin = Some(meet(margin, line));
         }
-        rest = behind;
     }
     margin
 }
@@ -56,10 +50,7 @@ fn margin(text: &[u8]) -> Option<&[u8]>
 fn margin_width(text: &[u8]) -> usize
     ensures { result ≡ length (margin_of (lines_of text.now)) }
 {
-    match margin(text) {
-        Some(run) => run.len(),
-        None => 0,
-    }
+    margin(text).map_or(0, |run| run.len())
 }
 
 // A line of blanks becomes empty, any other loses its first `width` bytes.
@@ -72,33 +63,6 @@ fn outdent(line: &[u8], width: usize) -> &[u8]
     &line[width.min(line.len())..]
 }
 
-// Writes the line and a line feed into `out` from `at` on, and gives the place behind them.
-fn put_line(out: &mut [u8], at: usize, line: &[u8]) -> usize
-    requires { at + length line.now < length out.old }
-    ensures value { result ≡ at + length line.now + 1 }
-    ensures written { out.new ≡ take at out.old ++ (line.now ++ 10 ∷ []) ++ drop result out.old }
-{
-    let end = at + line.len();
-    out[at..end].copy_from_slice(line);
-    out[end] = b'\n';
-    end + 1
-}
-
-// Writes each line of `text`, outdented by `width`, and a line feed behind it; gives how many bytes that takes.
-fn outdent_into(text: &[u8], width: usize, out: &mut [u8]) -> usize
-    requires { length (unlines (map (less width) (lines_of text.now))) ≤ length out.old }
-    ensures value { result ≡ length (unlines (map (less width) (lines_of text.now))) }
-    ensures written { out.new ≡ unlines (map (less width) (lines_of text.now)) ++ drop result out.old }
-{
-    let mut at = 0;
-    let mut rest = text;
-    while let Some((line, behind)) = split_line(rest) {
-        at = put_line(out, at, outdent(line, width));
-        rest = behind;
-    }
-    at
-}
-
 // Writes the dedented text at the front of `out` and gives its length; nothing is written, and None given,
 // where `out` is not longer than `text`.
 pub fn dedent_into(text: &[u8], out: &mut [u8]) -> Option<usize>
@@ -109,7 +73,12 @@ pub fn dedent_into(text: &[u8], out: &mut [u8]) -> Option<usize>
     if text.len() >= out.len() {
         return None;
     }
-    Some(outdent_into(text, margin_width(text), out))
+    let width = margin_width(text);
+    let mut at = 0;
+    for line in lines(text) {
+        at = put_line(out, at, outdent(line, width))?;
+    }
+    Some(at)
 }
 
 // `text` with lines of blanks emptied and the margin of the others taken off, a line feed behind each line.
@@ -118,8 +87,11 @@ pub fn dedent(heap: Global, text: &[u8]) -> Result<Vec<u8>, AllocError>
     ensures lines { IfOk result (λ v. Dedents (lines_of text.now) (lines_of v.items)) }
     ensures settles { IfOk result (λ v. dedented v.items ≡ v.items) }
 {
-    let mut out = vec![in heap; 0; text.len() + 1]?;
-    let len = dedent_into(text, &mut out).unwrap();
-    out.truncate(len);
+    let width = margin_width(text);
+    let mut out = Vec::new(heap);
+    for line in lines(text) {
+        out.extend_from_slice(outdent(line, width))?;
+        out.push(b'\n')?;
+    }
     Ok(out)
 }

@@ -1,26 +1,25 @@
-ghost use Rattle.std.specs.Prelude.{◌≡◌, ◌<◌, ◌++◌, IfOk, OnOk};
-ghost use Rattle.text.specs.Escapes.{escaped, escape_of, hex_digit};
+ghost use Rattle.std.specs.Prelude.{◌≡◌, IfOk, Some};
+ghost use Rattle.text.specs.Escapes.{escaped, escape_of};
 
 use std::alloc::{AllocError, Global};
+use std::fmt;
+use std::fmt::Write;
 
-// A number below 16 as a hexadecimal digit.
-fn hex_digit(n: u8) -> u8
-    requires { n < 16 }
-    ensures { result ≡ hex_digit n }
-{
-    if n < 10 { b'0' + n } else { b'a' + (n - 10) }
-}
+// A byte, which prints as printable ASCII.
+#[derive(Clone, Copy)]
+struct Shown(u8);
 
-// A byte as printable ASCII, behind what is shown already.
-fn push_escaped(shown: &mut Vec<u8>, b: u8) -> Result<(), AllocError>
-    ensures { OnOk result (shown.new.items ≡ shown.old.items ++ escape_of b) }
-{
-    match b {
-        b'\\' => shown.extend_from_slice(b"\\\\"),
-        b'\n' => shown.extend_from_slice(b"\\n"),
-        b'\t' => shown.extend_from_slice(b"\\t"),
-        b' '..=b'~' => shown.extend_from_slice(&[b]),
-        _ => shown.extend_from_slice(&[b'\\', b'x', hex_digit(b / 16), hex_digit(b % 16)]),
+impl fmt::Display for Shown {
+    ghost output = { λ shown. Some (escape_of shown.0) };
+
+    fn fmt<W: fmt::Write>(&self, f: &mut fmt::Formatter<W>) -> fmt::Result {
+        match self.0 {
+            b'\\' => f.write_str(r"\\"),
+            b'\n' => f.write_str(r"\n"),
+            b'\t' => f.write_str(r"\t"),
+            b @ b' '..=b'~' => f.write_char(char::from(b)),
+            b => write!(f, r"\x{b:02x}"),
+        }
     }
 }
 
@@ -28,9 +27,9 @@ fn push_escaped(shown: &mut Vec<u8>, b: u8) -> Result<(), AllocError>
 pub fn escape(heap: Global, text: &[u8]) -> Result<Vec<u8>, AllocError>
     ensures { IfOk result (λ v. v.items ≡ escaped text.now) }
 {
-    let mut shown = Vec::new(heap);
+    let mut shown = String::new(heap);
     for b in text {
-        push_escaped(&mut shown, *b)?;
+        write!(shown, "{}", Shown(*b))?;
     }
-    Ok(shown)
+    Ok(shown.into_bytes())
 }

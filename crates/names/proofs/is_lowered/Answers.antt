@@ -1,15 +1,14 @@
-use Rattle.std.proofs.Common.{sym, ◌∙◌, arith}
-use Rattle.names.proofs.Lowering.{lowered_longer, lowered_other, lowered_same}
+use Rattle.std.proofs.Common.{◌∙◌, eqb, rules}
+use Rattle.std.proofs.lemmas.Iterator.{YieldsList-from_slice, YieldsList-from_zip}
+use Rattle.std.proofs.lemmas.Iterator.Search.{all_from_yields_List}
+use borrow.Author.Tests.{tests}
+use Rattle.text.specs.Bytes.{lowered}
+use Rattle.names.proofs.Lowering.{lowered_same}
 use Rattle.names.proofs.is_lowered.Goals as goal
 
 pub returns-then-asked-name : goal.returns-then-asked-name
-returns-then-asked-name c = lowered_longer c.args.asked.now c.args.name.now c.if-asked-name.true
-
-pub returns-then-b-lower_byte : goal.returns-then-b-lower_byte
-returns-then-b-lower_byte c =
-    lowered_other c.args.asked.now c.args.name.now c.loop-i.i (omega arith)
-    (λ e. c.if-b-lower_byte.true (e ∙ sym c.lower_byte.ensures))
-
-pub returns : goal.returns
-returns c =
-    lowered_same c.args.asked.now c.args.name.now c.if-asked-name.false (λ k h. c.loop-i.invariant k (omega arith))
+returns-then-asked-name c =
+    all_from_yields_List (λ p. eqb p.0 (lowered p.1)) c.all.new.self _ _ c.all.ensures.ran
+    (YieldsList-from_zip (YieldsList-from_slice c.args.asked.now cc) (YieldsList-from_slice c.args.name.now cc))
+    (λ x b q k. search (rules, tests))
+    ∙ lowered_same c.args.asked.now c.args.name.now c.if-asked-name.true

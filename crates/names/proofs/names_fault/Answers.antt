@@ -1,18 +1,13 @@
-use Rattle.std.proofs.Common.{[]}
+use Rattle.std.proofs.Common.{true, false, rules}
+use Rattle.std.proofs.lemmas.Iterator.{first_from_Range}
+use borrow.Author.Tests.{tests}
 use Rattle.text.specs.Lines.{texts}
-use Rattle.names.proofs.Naming.{fault_here, fault_later, fault_nowhere, faults_are}
+use Rattle.names.proofs.Naming.{fault_is, faults_are, LentJoins}
 use Rattle.names.proofs.names_fault.Goals as goal
-
-pub returns-then-not-can_join : goal.returns-then-not-can_join
-returns-then-not-can_join c =
-    let value = fault_here c.args.names.now c.loop-i.i (record { ref_ptr = (0, 0); now = [] }) c.loop-i-test.true c.if-not-can_join.ensures c.loop-i.invariant in
-    record { value = value; faults = faults_are (texts c.args.names.now) value }
-
-pub loop-i-preserved : goal.loop-i-preserved
-loop-i-preserved c =
-    fault_later c.args.names.now c.loop-i.i (record { ref_ptr = (0, 0); now = [] }) c.loop-i-test.true c.if-not-can_join.ensures c.loop-i.invariant
 
 pub returns : goal.returns
 returns c =
-    let value = fault_nowhere c.args.names.now c.loop-i.i c.loop-i-test.false c.loop-i.invariant in
+    let value = fault_is c.args.names.now c.find.result
+    (first_from_Range _ c.find.new.self _ c.find.result (LentJoins c.args.names.now false) (LentJoins c.args.names.now true)
+    c.find.ensures.ran (λ x q k. search (rules, tests)) (λ x q k. search (rules, tests))) in
     record { value = value; faults = faults_are (texts c.args.names.now) value }

@@ -1,7 +1,7 @@
 use Rattle.std.proofs.Common.{ℕ, List, ap, ◌∙◌}
+use Rattle.text.specs.Lines.{put}
 use Rattle.rules.specs.declared.meaning.Place.{Place}
-use Rattle.reader.specs.Setups.{setup}
-use Rattle.reader.specs.Shelves.{put}
+use Rattle.reader.specs.Setups.{setup_of}
 use Rattle.reader.specs.Steps.{Given, given}
 use Rattle.reader.proofs.Giving.{part_held, part_put}
 use Rattle.reader.proofs.run.ask.Goals as goal
@@ -9,7 +9,7 @@ use Rattle.reader.proofs.run.ask.Goals as goal
 pub returns : goal.returns
 returns g c =
     let r = c.args.reader.now in
-    let q = setup r.names.now r.share g.R.LineRule in
+    let q = setup_of r.terms g.R.LineRule in
     let targets = c.args.targets.now in
     let part : Place = c.clip-part.result in
     let held = part_held targets c.args.target part c.clip-part.ensures in

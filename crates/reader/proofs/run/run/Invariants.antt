@@ -6,5 +6,5 @@ use Rattle.reader.proofs.run.run.Given as goal
 abbrev pub invariant-loop-i : goal.invariant-loop-i
 invariant-loop-i g l =
     Made (setup l.names l.share g.R.LineRule) l.calls l.initial.shelf l.initial.targets l.initial.replies l.i l.reader.state l.shelf l.targets l.replies
-    × (l.reader.names.now ≡ l.names)
-    × (l.reader.share ≡ l.share)
+    × (l.reader.terms.names.now ≡ l.names)
+    × (l.reader.terms.share ≡ l.share)

@@ -1,29 +1,33 @@
-use Rattle.std.proofs.Common.{Err, vec_items, ap, ◌∙◌}
+use Rattle.std.proofs.Common.{◌≡◌, ◌+◌, true, false, codes, vec_items, rules}
+use Rattle.std.specs.Str.{bytes_eq}
 use Rattle.std.proofs.lemmas.Result.{err_from_is_err_and}
-use Rattle.replay.proofs.Scripts.{names_next, names_none, names_push, names_start}
+use Rattle.text.specs.Lines.{texts}
+use Rattle.replay.specs.Scripts.{on_line}
+use Rattle.replay.proofs.Scripts.{heard, line, names_next, names_none, names_push}
 use Rattle.replay.proofs.script.read_names.Goals as goal
 
-pub returns-then-is_same : goal.returns-then-is_same
-returns-then-is_same c =
-    record {
-      read = names_start c.args.lines.now (vec_items c.loop-i.names) c.loop-i.i _ c.loop-i-test.true c.loop-i.invariant c.if-is_same.ensures;
-      within = c.loop-i-test.true;
-    }
+pub returns-then-eq-clause-read : goal.returns-then-eq-clause-read
+returns-then-eq-clause-read c =
+    let is : true ≡ bytes_eq (line c.args.lines.now c.args.from c.loop-k.k) (codes "start") = search rules in
+    let so = names_next c.args.lines.now c.args.from c.loop-k.k _ (texts (vec_items c.loop-k.names)) c.loop-k-test.true c.loop-k.invariant in
+    rw (← is) at so
 
-pub returns-in_err-name : goal.returns-in_err-name
-returns-in_err-name c =
+pub returns-in_err-name-clause-read : goal.returns-in_err-name-clause-read
+returns-in_err-name-clause-read c =
     let p = err_from_is_err_and c.from_residual.result c.from_residual.ensures.1 in
-    let next = names_next c.args.lines.now (vec_items c.loop-i.names) c.loop-i.i _ c.name_of.result _ c.loop-i-test.true c.loop-i.invariant c.if-is_same.ensures c.name_of.ensures c.in_err-name.ensures in
-    record { read = rw (p.1, p.2) next; within = rw p.1 tt }
+    let is : false ≡ bytes_eq (line c.args.lines.now c.args.from c.loop-k.k) (codes "start") = search rules in
+    let x : c.map_err.result ≡ on_line (c.args.from + c.loop-k.k) c.name_of.result = search rules in
+    let said = heard (λ n. n.now) (c.args.from + c.loop-k.k) c.name_of.result _ c.name_of.ensures x in
+    let so = names_next c.args.lines.now c.args.from c.loop-k.k _ (texts (vec_items c.loop-k.names)) c.loop-k-test.true c.loop-k.invariant in
+    rw (p.1, p.2) (rw (← is, said, c.in_err-name.was) at so)
 
-pub loop-i-preserved : goal.loop-i-preserved
-loop-i-preserved c =
-    let next = names_next c.args.lines.now (vec_items c.loop-i.names) c.loop-i.i _ c.name_of.result _ c.loop-i-test.true c.loop-i.invariant c.if-is_same.ensures c.name_of.ensures c.in_ok-name.ensures in
-    names_push c.args.lines.now (vec_items c.loop-i.names) _ c.in_ok-name.name c.in_ok-push.ensures.items next
+pub loop-k-preserved : goal.loop-k-preserved
+loop-k-preserved c =
+    let is : false ≡ bytes_eq (line c.args.lines.now c.args.from c.loop-k.k) (codes "start") = search rules in
+    let x : c.map_err.result ≡ on_line (c.args.from + c.loop-k.k) c.name_of.result = search rules in
+    let said = heard (λ n. n.now) (c.args.from + c.loop-k.k) c.name_of.result _ c.name_of.ensures x in
+    let so = names_next c.args.lines.now c.args.from c.loop-k.k _ (texts (vec_items c.loop-k.names)) c.loop-k-test.true c.loop-k.invariant in
+    names_push c.args.lines.now c.args.from c.loop-k.k _ (vec_items c.loop-k.names) c.in_ok-name.name c.in_ok-push.ensures.items (rw (← is, said, c.in_ok-name.was) at so)
 
-pub returns : goal.returns
-returns c =
-    record {
-      read = ap Err c.at.ensures ∙ names_none c.args.lines.now (vec_items c.loop-i.names) c.loop-i.i _ c.loop-i-test.false c.loop-i.invariant;
-      within = tt;
-    }
+pub returns-clause-read : goal.returns-clause-read
+returns-clause-read c = rw (c.into.ensures, c.at.ensures) (names_none c.args.lines.now c.args.from c.loop-k.k _ c.loop-k-test.false c.requires c.loop-k.invariant)

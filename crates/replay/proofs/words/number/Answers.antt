@@ -1,19 +1,16 @@
-use Rattle.std.proofs.Common.{sym, ◌∙◌, arith}
-use Rattle.std.proofs.lemmas.List.{at_drop_all}
-use Rattle.std.proofs.lemmas.Bool.{eqb-false}
-use Rattle.replay.proofs.Numbers.{read_all, read_more, read_on}
+use Rattle.std.proofs.Common.{◌≡◌, ◌≢◌, get_or, Some, None, ◌∙◌, rules}
+use Rattle.std.specs.Result.{result_ok}
+use Rattle.replay.proofs.Numbers.{parsed_is, read_is, unread_is}
 use Rattle.replay.proofs.words.number.Goals as goal
 
-pub loop-b-init : goal.loop-b-init
-loop-b-init c =
-    let some = eqb-false _ 0 (sym c.if-is_empty.ensures) in
-    read_all c.args.text.now (omega arith)
+pub returns-in_err-ok-in-Some : goal.returns-in_err-ok-in-Some
+returns-in_err-ok-in-Some c =
+    let none : result_ok c.from_utf8.result ≡ None = search rules in
+    rw c.from_residual.ensures (unread_is c.args.text.now c.from_utf8.result _ _ c.from_utf8.ensures.cases none)
 
-pub returns-in_err-n : goal.returns-in_err-n
-returns-in_err-n c = c.from_residual.ensures ∙ read_more c.args.text.now c.loop-b.n c.loop-b.b-index _ c.loop-b-test.true c.loop-b.invariant c.in_err-n.ensures
-
-pub loop-b-preserved : goal.loop-b-preserved
-loop-b-preserved c = read_more c.args.text.now c.loop-b.n c.loop-b.b-index _ c.loop-b-test.true c.loop-b.invariant c.in_ok-n.ensures
-
-pub returns : goal.returns
-returns c = sym (at_drop_all (λ bs. read_on bs c.loop-b.n) c.args.text.now c.loop-b.b-index c.loop-b-test.false) ∙ c.loop-b.invariant
+pub returns-in_ok-ok-in-Some : goal.returns-in_ok-ok-in-Some
+returns-in_ok-ok-in-Some c =
+    let some : result_ok c.from_utf8.result ≡ Some c.in_ok-ok-in-Some.field-0 = search rules in
+    let same = read_is c.args.text.now c.from_utf8.result c.in_ok-ok-in-Some.field-0 _ _ c.from_utf8.ensures.cases some in
+    let plain : get_or c.args.text.now 0 0 ≢ 43 = search rules in
+    c.ok-in-Some.ensures.value ∙ parsed_is c.args.text.now c.parse.result (rw same at c.parse.ensures.value.0) plain

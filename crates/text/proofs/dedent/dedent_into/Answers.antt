@@ -1,25 +1,20 @@
-use Rattle.std.proofs.Common.{Some, refl, ap, ◌∙◌, arith}
-use Rattle.std.proofs.lemmas.Bool.{cond_above, cond_below}
+use Rattle.std.proofs.Common.{refl, arith}
+use Rattle.text.specs.Dedents.{less}
 use Rattle.text.proofs.Margins.{outdented_fits}
-use Rattle.text.proofs.Writes.{dedented_written}
+use Rattle.text.proofs.Writes.{unlines_first, written_more}
 use Rattle.text.proofs.dedent.dedent_into.Goals as goal
 
-pub returns-then-text-out : goal.returns-then-text-out
-returns-then-text-out c =
+pub loop-line-init : goal.loop-line-init
+loop-line-init c =
+    let fits = outdented_fits c.margin_width-width.result c.args.text.now in
     record {
-      value = cond_above _ _ _ _ _ c.if-text-out.true refl;
-      written = cond_above _ _ _ _ _ c.if-text-out.true refl;
-      fits = tt;
+      front = (let text = c.lines-line-items.ensures in cc);
+      behind = refl;
+      within = omega arith;
+      room = omega arith;
     }
 
-pub outdent_into-requires : goal.outdent_into-requires
-outdent_into-requires c = omega (arith, outdented_fits c.margin_width.result c.args.text.now)
-
-pub returns : goal.returns
-returns c =
-    let is = dedented_written c.args.text.now c.args.out.now _ _ _ c.margin_width.ensures c.outdent_into.ensures.value c.outdent_into.ensures.written in
-    record {
-      value = ap Some is.0 ∙ cond_below _ _ _ _ c.if-text-out.false;
-      written = is.1 ∙ cond_below _ _ _ _ c.if-text-out.false;
-      fits = omega (arith, outdented_fits c.margin_width.result c.args.text.now, c.outdent_into.auto.out);
-    }
+pub loop-line-preserved : goal.loop-line-preserved
+loop-line-preserved c =
+    let cut = unlines_first (less c.margin_width-width.result) _ _ _ _ c.in-Some.ensures.steps c.outdent.ensures in
+    written_more c.loop-line.invariant _ _ cut _ _ c.in_ok-at.ensures.value c.in_ok-at.ensures.written

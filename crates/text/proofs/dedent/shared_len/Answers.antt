@@ -1,26 +1,19 @@
-use Rattle.std.proofs.Common.{eqb, drop, arith, length-drop}
-use Rattle.std.proofs.lemmas.List.Sums.{common_prefix_len-drop_yes, common_prefix_len-drop_no, common_prefix_len-le}
-use Rattle.std.proofs.lemmas.Bool.{eq-eqb, ne_eqb}
+use Rattle.std.proofs.Common.{ℕ, Bool, eqb, rules, sym, ◌∙◌}
+use borrow.Author.Tests.{tests}
+use Rattle.std.specs.List.{zip}
+use Rattle.std.proofs.lemmas.List.Folds.{length-prefix_len}
+use Rattle.std.proofs.lemmas.Iterator.{YieldsList-from_slice, YieldsList-from_zip}
+use Rattle.std.proofs.lemmas.Iterator.Consumers.{count_from_yields_List, YieldsList-at}
+use Rattle.std.proofs.lemmas.Iterator.Search.{YieldsList-from_take_while}
+use Rattle.text.proofs.Shared.{common_zip}
 use Rattle.text.proofs.dedent.shared_len.Goals as goal
 
-pub loop-n-preserved : goal.loop-n-preserved
-loop-n-preserved c =
-    let e = common_prefix_len-drop_yes eqb c.args.a.now c.args.b.now c.loop-n.n 0 0 c.loop-n-test.true c.if-n-b.true (eq-eqb _ _ c.if-a-n.true) in
-    (omega arith, omega arith)
+-- the two bytes of a pair are equal
+abbrev same : ℕ × ℕ → Bool
+same p = eqb p.0 p.1
 
-pub returns-else-a-n : goal.returns-else-a-n
-returns-else-a-n c =
-    let e = common_prefix_len-drop_no eqb c.args.a.now c.args.b.now c.loop-n.n 0 0 c.loop-n-test.true c.if-n-b.true (ne_eqb _ _ c.if-a-n.false) in
-    record { value = omega arith; within = omega arith }
-
-pub returns-else-n-b : goal.returns-else-n-b
-returns-else-n-b c =
-    let short = common_prefix_len-le eqb (drop c.loop-n.n c.args.a.now) (drop c.loop-n.n c.args.b.now) in
-    let left = length-drop c.loop-n.n c.args.b.now in
-    record { value = omega arith; within = omega arith }
-
-pub returns-after-loop-n : goal.returns-after-loop-n
-returns-after-loop-n c =
-    let short = common_prefix_len-le eqb (drop c.loop-n.n c.args.a.now) (drop c.loop-n.n c.args.b.now) in
-    let left = length-drop c.loop-n.n c.args.a.now in
-    record { value = omega arith; within = omega arith }
+pub returns-clause-value : goal.returns-clause-value
+returns-clause-value c =
+    count_from_yields_List c.take_while.result _ c.count.ensures.ran (YieldsList-from_take_while _ same (YieldsList-at c.take_while.ensures.source (YieldsList-from_zip (YieldsList-from_slice c.args.a.now cc) (YieldsList-from_slice c.args.b.now cc))) c.take_while.ensures.closure c.take_while.ensures.done (λ x b q k. search (rules, tests)))
+    ∙ length-prefix_len same (zip c.args.a.now c.args.b.now)
+    ∙ sym (common_zip c.args.a.now c.args.b.now)

@@ -1,20 +1,16 @@
-use Rattle.std.proofs.Common.{sym, ap, ◌∙◌, subst}
-use Rattle.std.proofs.lemmas.List.{map_push}
-use Rattle.text.specs.Lines.{texts, Splits}
+use Rattle.std.proofs.Common.{◌≡◌, List, ℕ, vec_items, sym, ◌∙◌, subst}
+use Rattle.std.proofs.lemmas.Iterator.Consumers.{map_from_collect, YieldsList-from_first}
+use Rattle.std.proofs.lemmas.Result.{IfOk-weaker}
+use Rattle.text.specs.Lines.{lines_of, texts, Splits}
 use Rattle.text.proofs.Splits.{lines_only, lines_split}
-use Rattle.text.proofs.Steps.{lines_more, lines_all}
 use Rattle.text.proofs.lines.split_lines.Goals as goal
-
-pub loop-line-preserved : goal.loop-line-preserved
-loop-line-preserved c =
-    let pushed = ap texts c.in_ok-push.ensures.items ∙ map_push (λ r. r.now) _ _ in
-    rw pushed (lines_more _ _ _ _ _ c.loop-line.invariant c.in-Some.ensures.0)
 
 pub returns : goal.returns
 returns c =
-    let all = lines_all _ _ c.loop-line.rest.now c.loop-line.invariant c.in_default.ensures in
+    let text = c.args.text.now in
+    let value = map_from_collect c.collect.result c.collect.ensures.ran (YieldsList-from_first (λ x. x.now) (λ s. lines_of s.rest.now) (lines_of text) (rw c.lines.ensures)) in
     record {
-      value = all;
-      splits = subst (Splits _) (sym all) (lines_split _);
-      only = λ lines s. lines_only _ lines s ∙ sym all;
+      value = value;
+      splits = IfOk-weaker _ _ (λ v. Splits text (texts (vec_items v))) (λ v e. subst (Splits text) (sym e) (lines_split text)) value;
+      only = IfOk-weaker _ _ (λ v. (lines : List (List ℕ)) → Splits text lines → lines ≡ texts (vec_items v)) (λ v e lines s. lines_only text lines s ∙ sym e) value;
     }
