@@ -36,7 +36,7 @@ fn looked_up(heap: Global, name: &[u8], lowers: bool) -> Result<String, AllocErr
     Ok(String::from_utf8(bytes?).unwrap())
 }
 
-// What is told of a line: what a rule makes of it, with the name as it is looked up.
+// What is told of a line: what a rule makes of it, with the name as it is looked up. A `Display` needs a type of this crate.
 #[derive(Drop)]
 enum Finding {
     Opens { name: String, text: Option<usize> },

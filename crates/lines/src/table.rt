@@ -6,7 +6,7 @@ use rules::rule::LineRule;
 use rules::rust::{RustEntry, RustSection};
 use rules::starlark::{StarlarkEntry, StarlarkSection};
 use std::alloc::{AllocError, Global};
-use text::escape::escape;
+use text::escape::Escaped;
 use text::lines::lines;
 
 // A cell and the spaces up to the next column, at least one.
@@ -28,10 +28,7 @@ fn column<R: LineRule>(heap: Global, rule: &R, line: &[u8]) -> Result<Vec<u8>, A
 fn barred(heap: Global, line: &[u8]) -> Result<Vec<u8>, AllocError>
     ensures { IfOk result (λ v. v.items ≡ barred line.now) }
 {
-    let mut shown = escape(heap, line)?;
-    shown.insert(0, b'|')?;
-    shown.extend_from_slice(b"|\n")?;
-    Ok(shown)
+    Ok(format!(in heap; "|{}|\n", Escaped(line))?.into_bytes())
 }
 
 // A line's number, what each rule makes of it, and the line.

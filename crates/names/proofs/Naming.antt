@@ -27,10 +27,6 @@ index_of-texts names name = rw (prefix_len-map, length-map)
 pub index_bound : (names : List (List ℕ)) (name : List ℕ) (i : ℕ) → index_of names name ≡ Some i → i < length names
 index_bound names name i e = (position-Some (λ n. bytes_eq n name) names i [] e).0
 
--- the name stands there
-pub index_at : (names : List (List ℕ)) (name : List ℕ) (i : ℕ) → index_of names name ≡ Some i → get_or names i [] ≡ name
-index_at names name i e = (bytes_eq-Decides (get_or names i []) name).0 (position-Some (λ n. bytes_eq n name) names i [] e).1
-
 -- a name is among those that have it
 pub among_decides : (names : List (List ℕ)) (name : List ℕ) → Decides (among names name) (Contains names name)
 among_decides names name =

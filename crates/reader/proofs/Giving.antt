@@ -9,7 +9,7 @@ use Rattle.text.specs.Lines.{put}
 use Rattle.text.specs.Trims.{trimmed}
 use Rattle.text.proofs.Ends.{drop_min, take_min}
 use Rattle.rules.specs.declared.meaning.Place.{Place}
-use Rattle.reader.specs.Runs.{clipped}
+use Rattle.rules.specs.Places.{clipped}
 use Rattle.reader.specs.Steps.{body_of, handed, withheld}
 
 -- a text that was written where there was room stands at the front, and its length was given

@@ -1,28 +1,23 @@
 -- What a line does, case by case.
-use Rattle.std.proofs.Common.{◌≡◌, ℕ, zero, suc, ◌+◌, ◌*◌, ◌<◌, ◌≤◌, Bool, true, false, cond, ltb, List, [], ◌∷◌, length, get_or, set, replicate, Some, None, Ok, Option, sym, refl, ap, ◌∙◌, subst, inl, inr, zero-le, mul-le-mul_right, suc-mul, arith, Bor}
-use Rattle.std.proofs.lemmas.List.{length-map}
+use Rattle.std.proofs.Common.{◌≡◌, ℕ, zero, suc, ◌+◌, ◌*◌, ◌<◌, ◌≤◌, Bool, true, false, cond, ltb, List, [], ◌∷◌, length, get_or, set, replicate, Some, None, Ok, Option, sym, refl, ap, ◌∙◌, subst, inl, inr, zero-le, mul-le-mul_right, suc-mul, arith}
 use Rattle.std.proofs.lemmas.Bool.{cases_Bool}
 use Rattle.refusal.specs.declared.Refusal.{Refusal}
 use Rattle.refusal.specs.declared.Refusal.TheVariants.{AlreadyClosed, ShortShelf, BadLine, FullShare}
-use Rattle.text.specs.Lines.{fault_of, texts}
+use Rattle.text.specs.Lines.{fault_of}
 use Rattle.rules.specs.declared.meaning.Meaning.{Meaning}
 use Rattle.rules.specs.declared.meaning.Meaning.TheVariants.{Opens, Continues, Stray}
 use Rattle.reader.specs.Shelves.{opening_text}
-use Rattle.reader.specs.Steps.{Setup, Step, asked_by, decided, goes_on, is_closed, kept_at, losing, opens, passes, refuses, short, stepped, strayed, strays, torn_at, unless_bad, used, LeavesAlone}
+use Rattle.reader.specs.Steps.{Setup, Step, asked_by, decided, goes_on, is_closed, kept_at, losing, opens, passes, refuses, short, stepped, strayed, strays, unless_bad, used, LeavesAlone}
 use Rattle.reader.specs.declared.answer.Answer.{Answer}
 use Rattle.reader.specs.declared.state.Course.{Course}
 use Rattle.reader.specs.declared.state.Course.TheVariants.{NoName, Open, Lost, Closed}
 use Rattle.reader.specs.declared.state.Kept.{Kept}
-use Rattle.reader.specs.declared.state.Kept.TheVariants.{Absent, Torn}
+use Rattle.reader.specs.declared.state.Kept.TheVariants.{Absent}
 use Rattle.reader.specs.declared.state.State.{State}
 
 -- the share of a name ends within the shelf
 pub part_ends : (i n share len : ℕ) → i < n → n * share ≤ len → i * share + share ≤ len
 part_ends i n share len l h = omega (arith, mul-le-mul_right {m = suc i} {n = n} share l, suc-mul i share)
-
--- the names as parts of memory are as many as their texts
-pub count_names : (names : List (Bor (List ℕ))) → length (texts names) ≡ length names
-count_names names = length-map names (λ n. n.now)
 
 -- what keeps within a share leaves all within it
 pub used_set : (ks : List Kept) (i share : ℕ) (new : Kept) → used new ≤ share →
@@ -114,11 +109,3 @@ module _ (q : Setup) (line : List ℕ) (s : State) (shelf : List ℕ) where
               | inr l ↦ subst (LeavesAlone s shelf) (sym (then_read f l)) (bad_leaves (fault_of line))
             ]
       ])
-
--- tearing the open name leaves all within the share
-pub used_torn : (c : Course) (ks : List Kept) (share : ℕ) → ((k : ℕ) → used (get_or ks k Absent) ≤ share) →
-    (k : ℕ) → used (get_or (torn_at c ks) k Absent) ≤ share
-used_torn NoName ks share all k = all k
-used_torn (Open i) ks share all k = used_set ks i share Torn zero-le all k
-used_torn Lost ks share all k = all k
-used_torn Closed ks share all k = all k

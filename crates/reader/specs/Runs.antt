@@ -1,12 +1,11 @@
 -- What is answered to a call after other calls, by the stretch in force and by a name's last stretch.
-use Rattle.std.specs.Prelude.{ℕ, ◌+◌, ◌-◌, ◌*◌, min, Bool, false, cond, ◌||◌, List, [], ◌∷◌, ◌++◌, length, take, drop, Some, None, Ok, Err, Option, Result, nat_le}
+use Rattle.std.specs.Prelude.{ℕ, ◌+◌, ◌*◌, Bool, false, cond, ◌||◌, List, [], ◌∷◌, ◌++◌, length, take, drop, Some, None, Ok, Err, Option, Result, nat_le}
 use Rattle.std.specs.Result.{result_map_both}
 use Rattle.refusal.specs.declared.Refusal.{Refusal}
 use Rattle.refusal.specs.declared.Refusal.TheVariants.{AlreadyClosed, ShortShelf, BadLine, FullShare, StillReading, NoText, TornText}
 use Rattle.text.specs.Lines.{fault_of, fed, put}
 use Rattle.rules.specs.declared.meaning.Meaning.{Meaning}
 use Rattle.rules.specs.declared.meaning.Meaning.TheVariants.{Opens, Continues, Stray}
-use Rattle.rules.specs.declared.meaning.Place.{Place}
 use Rattle.reader.specs.Shelves.{starting}
 use Rattle.reader.specs.Steps.{Setup, Given, asked_by, handed, losing, short, withheld}
 use Rattle.reader.specs.Stretches.{Stretch, asked, heard, in_force, last_stretch, on_course, running, text_of, unharmed}
@@ -35,10 +34,6 @@ lossy (Err e) = losing e
 abbrev pub ran : (List Call → Call → List ℕ → List ℕ) → List Call → List Call → List ℕ → List ℕ
 ran f h [] bytes = bytes
 ran f h (c ∷ cs) bytes = ran f (h ++ (c ∷ [])) cs (f h c bytes)
-
--- as much of a place as there is in so many bytes
-abbrev pub clipped : Place → ℕ → Place
-clipped place len = record { at = min place.at len; len = min place.len (len - min place.at len) }
 
 -- the part of the targets that a call names, and the targets with other bytes there
 abbrev pub target_of : Call → List ℕ → List ℕ

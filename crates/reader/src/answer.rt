@@ -1,5 +1,7 @@
-ghost use Rattle.std.specs.Prelude.{◌≡◌};
-ghost use Rattle.reader.specs.Answers.{answer_number};
+ghost use Rattle.std.specs.Prelude.{◌≡◌, Some};
+ghost use Rattle.reader.specs.Answers.{answer_number, shown_answer};
+
+use std::fmt;
 
 // What becomes of a line that is not refused.
 #[derive(Clone, Copy, Debug, PartialEq, Eq)]
@@ -27,6 +29,19 @@ impl Answer {
             Answer::OtherOpened => 2,
             Answer::Stored => 3,
             Answer::Outside => 4,
+        }
+    }
+}
+
+// The number, and the index of the name that opens.
+impl fmt::Display for Answer {
+    ghost output = { λ a. Some (shown_answer a) };
+
+    fn fmt<W: fmt::Write>(&self, f: &mut fmt::Formatter<W>) -> fmt::Result {
+        let number = self.number();
+        match self {
+            Answer::Opened(index) => write!(f, "{number} {index}"),
+            _ => write!(f, "{number}"),
         }
     }
 }

@@ -3,6 +3,7 @@ ghost use Rattle.text.specs.Lines.{texts};
 ghost use Rattle.reader.specs.Setups.{setup_of};
 ghost use Rattle.reader.specs.Starts.{start_refusal, Starts};
 ghost use Rattle.reader.specs.declared.state.Course.TheVariants.{Open};
+ghost use Rattle.reader.specs.declared.state.Kept.TheVariants.{Whole};
 ghost use Rattle.reader.specs.Steps.{closed_from, closing, decided, fresh, given, kept_at, short, stepped, used, LeavesAlone};
 
 use crate::answer::Answer;
@@ -12,7 +13,7 @@ use crate::state::{Course, Kept, State};
 use crate::terms::Terms;
 use names::{find, names_fault};
 use refusal::Refusal;
-use rules::meaning::Meaning;
+use rules::meaning::{Meaning, Place};
 use rules::rule::LineRule;
 use text::lines::fault;
 
@@ -23,6 +24,8 @@ pub struct Reader<'n, 'm, R> {
     state: State,
     // The open name is one of those asked for.
     ghost among: { (i : ℕ) → state.course ≡ Open i → i < length terms.names.now },
+    // And its text is whole up to now.
+    ghost whole: { (i : ℕ) → state.course ≡ Open i → kept_at state i ≡ Whole (used (kept_at state i)) },
     // No name has more than its share.
     ghost within: { (k : ℕ) → used (kept_at state k) ≤ terms.share },
 }
@@ -57,8 +60,8 @@ impl<R: LineRule> Reader<'_, '_, R> {
         shelf.len() < self.terms.names.len() * self.terms.share
     }
 
-    // What becomes of a line that can be read. `kept` stands in the three methods that change a reader: as functions
-    // of the state alone they would have to require what the ghost fields say.
+    // What becomes of a line that can be read. `kept` stands in whatever changes a reader: as functions of the state
+    // alone they would have to require what the ghost fields say.
     fn decide(&mut self, shelf: &mut [u8], line: &[u8]) -> Result<Answer, Refusal>
         requires long { short (setup_of self.old.terms R.LineRule) (length shelf.old) ≡ false }
         requires brief { length line.now ≤ 1000 }
@@ -140,9 +143,8 @@ impl<R: LineRule> Reader<'_, '_, R> {
         match self.state.kept[index] {
             Kept::Absent => Err(Refusal::NoText),
             Kept::Whole(used) => {
-                let start = self.terms.part(index).start;
-                let end = start + used;
-                hand_out(&shelf[start..end], target)
+                let at = self.terms.part(index).start;
+                hand_out(Place { at, len: used }.of(shelf), target)
             }
             Kept::Torn => Err(Refusal::TornText),
         }

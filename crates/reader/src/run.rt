@@ -66,6 +66,7 @@ pub fn run<'n, 'm, R: LineRule + Drop>(
 {
     let mut reader = Reader::start(rule, names, share)?;
     let made = calls.len().min(replies.len());
+    // A reply's place by its index: of what is written through a `zip` over `iter_mut` a proof knows nothing (tried).
     for (i, call) in calls[..made].iter().enumerate() {
         replies[i] = reply(&mut reader, shelf, targets, call);
     }

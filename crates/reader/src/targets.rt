@@ -1,6 +1,7 @@
 // The parts of the lent memory that questions for bodies name.
 ghost use Rattle.std.specs.Prelude.{◌≡◌};
-ghost use Rattle.reader.specs.Runs.{clipped, target_of};
+ghost use Rattle.rules.specs.Places.{clipped};
+ghost use Rattle.reader.specs.Runs.{target_of};
 
 use crate::calls::Call;
 use rules::meaning::Place;
@@ -9,11 +10,7 @@ use rules::meaning::Place;
 pub fn clip(place: Place, len: usize) -> Place
     ensures { result ≡ clipped place len }
 {
-    let at = place.at.min(len);
-    Place {
-        at,
-        len: place.len.min(len - at),
-    }
+    place.within(len)
 }
 
 // The target of a call; none where it is no question.

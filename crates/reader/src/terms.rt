@@ -17,6 +17,7 @@ pub struct Terms<'n, 'm, R> {
     ghost most: { share ≤ 16384 },
 }
 
+// Each asks for the index of an asked name: a type for such an index would have to carry how many names there are.
 impl<R> Terms<'_, '_, R> {
     // The share of the name with this index, as a part of the shelf.
     pub fn part(&self, i: usize) -> Range<usize>

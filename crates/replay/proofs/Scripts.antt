@@ -7,10 +7,9 @@ use Rattle.std.proofs.lemmas.List.Edits.{length-between, get_or-between}
 use Rattle.text.specs.Lines.{texts}
 use Rattle.reader.specs.declared.calls.Call.{Call}
 use Rattle.replay.specs.Sayings.{and_then, call_of, name_of, said, said_of}
-use Rattle.replay.specs.Scripts.{calls_from, fault_at, names_from, on_line, room_with, Names, Spoken}
+use Rattle.replay.specs.Scripts.{calls_from, names_from, on_line, room_with, Names, Spoken}
 use Rattle.replay.specs.declared.script.Fault.{Fault}
 use Rattle.replay.specs.declared.script.Wrong.{Wrong}
-use Rattle.replay.specs.declared.script.Wrong.TheVariants.{NoStart}
 
 -- what is made of what was read does not change the fault
 on_said : {T U : Type 0} (f : T → U) (i : ℕ) (r : Result T Wrong) → on_line i (said f r) ≡ said f (on_line i r)
@@ -55,12 +54,6 @@ module _ (lines : List (Bor (List ℕ))) (from k : ℕ) where
       names_from end (texts found ++ name.now ∷ []) (from + k + 1) behind ≡ whole → names_from end (texts next) (from + (k + 1)) (drop (from + (k + 1)) (texts lines)) ≡ whole
   names_push end found name is so = rw (is, map_push (λ r. r.now) found name, ← add_assoc from k 1) so
 
-  -- no line says `start`
-  pub names_none : (found : List (List ℕ)) {whole : Result Names Fault} → length (between from (length lines) lines) ≤ k → from ≤ length lines →
-      names_from (length (texts lines)) found (from + k) (drop (from + k) (texts lines)) ≡ whole → Err (fault_at (length lines) NoStart) ≡ whole
-  names_none found past within so =
-      ap (λ n. Err (fault_at n NoStart)) (sym (length-map lines (λ r. r.now))) ∙ ap (names_from (length (texts lines)) found (from + k)) (sym (line_none past within)) ∙ so
-
   -- the calls, by those found and the line
   pub calls_next : (found : List Call) (room : ℕ) {whole : Result Spoken Fault} → k < length (between from (length lines) lines) → calls_from (map said_of found) room (from + k) (drop (from + k) (texts lines)) ≡ whole →
       and_then (on_line (from + k) (call_of room line)) (λ call. and_then (on_line (from + k) (room_with room call)) (λ next. calls_from (map said_of found ++ call ∷ []) next (from + k + 1) behind)) ≡ whole
@@ -70,8 +63,3 @@ module _ (lines : List (Bor (List ℕ))) (from k : ℕ) where
   pub calls_push : (found : List Call) (room : ℕ) (call : Call) {next : List Call} {whole : Result Spoken Fault} → next ≡ found ++ call ∷ [] →
       calls_from (map said_of found ++ said_of call ∷ []) room (from + k + 1) behind ≡ whole → calls_from (map said_of next) room (from + (k + 1)) (drop (from + (k + 1)) (texts lines)) ≡ whole
   calls_push found room call is so = rw (is, map_push said_of found call, ← add_assoc from k 1) so
-
-  -- all calls are found
-  pub calls_all : (found : List Call) (room : ℕ) {whole : Result Spoken Fault} → length (between from (length lines) lines) ≤ k → from ≤ length lines →
-      calls_from (map said_of found) room (from + k) (drop (from + k) (texts lines)) ≡ whole → Ok (record { calls = map said_of found; room = room }) ≡ whole
-  calls_all found room past within so = ap (calls_from (map said_of found) room (from + k)) (sym (line_none past within)) ∙ so

@@ -3,10 +3,8 @@ use Rattle.std.specs.Prelude.{ℕ, List, [], ◌∷◌, ◌++◌, take, Ok, Err,
 use Rattle.refusal.specs.Numbers.{shown}
 use Rattle.refusal.specs.declared.Refusal.{Refusal}
 use Rattle.text.specs.Escapes.{escaped}
-use Rattle.reader.specs.Answers.{answer_number}
+use Rattle.reader.specs.Answers.{shown_answer}
 use Rattle.reader.specs.Runs.{target_of}
-use Rattle.reader.specs.declared.answer.Answer.{Answer}
-use Rattle.reader.specs.declared.answer.Answer.TheVariants.{PassedOver, Opened, OtherOpened, Stored, Outside}
 use Rattle.reader.specs.declared.calls.Call.{Call}
 use Rattle.reader.specs.declared.calls.Reply.{Reply}
 use Rattle.reader.specs.declared.calls.Reply.TheVariants.{Answered, Closed, Body}
@@ -14,18 +12,6 @@ use Rattle.replay.specs.Sayings.{most_room}
 use Rattle.replay.specs.declared.script.Fault.{Fault}
 use Rattle.replay.specs.declared.script.Wrong.{Wrong}
 use Rattle.replay.specs.declared.script.Wrong.TheVariants.{RuleWanted, NotRule, ShareWanted, ShelfWanted, NameWanted, NotNumber, ShelfOver, RoomOver, RoomsOver, NotCall, NoStart}
-
--- the index of the name that opens
-abbrev pub shown_index : Answer → List ℕ
-shown_index PassedOver = []
-shown_index (Opened i) = codes " " ++ decimal i
-shown_index OtherOpened = []
-shown_index Stored = []
-shown_index Outside = []
-
--- an answer's number, and the index
-abbrev pub shown_answer : Answer → List ℕ
-shown_answer a = decimal (answer_number a) ++ shown_index a
 
 -- `body 6 Groups`: how long the body is, and what its target holds of it
 abbrev pub shown_body : ℕ → List ℕ → List ℕ

@@ -6,7 +6,7 @@ ghost use Rattle.replay.specs.Scripts.{content_of};
 ghost use Rattle.replay.specs.Shown.{shown_run};
 
 use crate::script::{RuleName, Script, ScriptError, read_script};
-use crate::show::show_reply;
+use crate::show::Shown;
 use reader::calls::{Call, Reply};
 use reader::run::run;
 use reader::targets::target_of;
@@ -15,6 +15,7 @@ use rules::rule::LineRule;
 use rules::rust::{RustEntry, RustSection};
 use rules::starlark::{StarlarkEntry, StarlarkSection};
 use std::alloc::{AllocError, Global};
+use std::fmt::Write;
 
 // `started`, and a line for each reply.
 fn show_run(
@@ -25,13 +26,12 @@ fn show_run(
 ) -> Result<Vec<u8>, AllocError>
     ensures { IfOk result (λ v. v.items ≡ shown_run targets.now calls.now replies.now) }
 {
-    let mut lines = Vec::from_slice(heap, b"started\n")?;
+    let mut lines = String::from_str(heap, "started\n")?;
     for (call, reply) in calls.iter().zip(replies) {
         let target = target_of(call, targets);
-        lines.extend_from_slice(&show_reply(heap, reply, target)?)?;
-        lines.push(b'\n')?;
+        writeln!(lines, "{}", Shown { reply, target })?;
     }
-    Ok(lines)
+    Ok(lines.into_bytes())
 }
 
 // The script's calls on a reader by the rule, over new memory: a shelf and targets of dots, and a place for each reply.

@@ -161,7 +161,7 @@ fn ask_of(at: usize, text: &[u8]) -> Result<Call<'_>, Wrong>
     })
 }
 
-// The call that a line is, with its target, if it has one, from `at` on.
+// The call that a line is, with its target, if it has one, from `at` on. By ifs, as a rule's name is read.
 fn call_of(at: usize, line: &[u8]) -> Result<Call<'_>, Wrong>
     ensures { said said_of result ≡ call_of at line.now }
 {

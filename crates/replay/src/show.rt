@@ -1,49 +1,32 @@
-ghost use Rattle.std.specs.Prelude.{◌≡◌, IfOk, Some};
-ghost use Rattle.replay.specs.Shown.{fault_text, shown_answer, shown_body, shown_reply, shown_wrong};
+ghost use Rattle.std.specs.Prelude.{Some};
+ghost use Rattle.replay.specs.Shown.{fault_text, shown_reply, shown_wrong};
 
 use crate::script::{Fault, ROOM_MOST, Wrong};
-use reader::answer::Answer;
 use reader::calls::Reply;
 use refusal::Refusal;
-use std::alloc::{AllocError, Global};
 use std::fmt;
-use text::escape::escape;
+use text::escape::Escaped;
 
-// An answer's number, and the index of the name that opens.
-fn show_answer(heap: Global, answer: Answer) -> Result<Vec<u8>, AllocError>
-    ensures { IfOk result (λ v. v.items ≡ shown_answer answer) }
-{
-    let number = answer.number();
-    let words = match answer {
-        Answer::Opened(index) => format!(in heap; "{number} {index}")?,
-        _ => format!(in heap; "{number}")?,
-    };
-    Ok(words.into_bytes())
+// What a call is answered, where its target holds these bytes.
+#[derive(Clone, Copy)]
+pub struct Shown<'a> {
+    pub reply: &'a Result<Reply, Refusal>,
+    pub target: &'a [u8],
 }
 
-// `body LENGTH TEXT`.
-fn show_body(heap: Global, len: usize, target: &[u8]) -> Result<Vec<u8>, AllocError>
-    ensures { IfOk result (λ v. v.items ≡ shown_body len target.now) }
-{
-    let end = len.min(target.len());
-    let mut words = format!(in heap; "body {len} ")?.into_bytes();
-    words.extend_from_slice(&escape(heap, &target[0..end])?)?;
-    Ok(words)
-}
+impl fmt::Display for Shown<'_> {
+    ghost output = { λ s. Some (shown_reply s.target.now s.reply.now) };
 
-// What a call is answered, where its target holds these bytes. No Display, since `escape` needs memory.
-pub fn show_reply(
-    heap: Global,
-    reply: &Result<Reply, Refusal>,
-    target: &[u8],
-) -> Result<Vec<u8>, AllocError>
-    ensures { IfOk result (λ v. v.items ≡ shown_reply target.now reply.now) }
-{
-    match reply {
-        Ok(Reply::Answered(answer)) => show_answer(heap, *answer),
-        Ok(Reply::Closed) => Vec::from_slice(heap, b"closed"),
-        Ok(Reply::Body(len)) => show_body(heap, *len, target),
-        Err(refusal) => refusal.show(heap),
+    fn fmt<W: fmt::Write>(&self, f: &mut fmt::Formatter<W>) -> fmt::Result {
+        match self.reply {
+            Ok(Reply::Answered(answer)) => write!(f, "{answer}"),
+            Ok(Reply::Closed) => write!(f, "closed"),
+            Ok(Reply::Body(len)) => {
+                let end = (*len).min(self.target.len());
+                write!(f, "body {len} {}", Escaped(&self.target[..end]))
+            }
+            Err(refusal) => write!(f, "{refusal}"),
+        }
     }
 }
 

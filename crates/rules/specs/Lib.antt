@@ -1,6 +1,7 @@
 pub mod Meanings
 pub mod Forms
 pub mod Laws
+pub mod Places
 pub mod Properties
 pub mod Worked
 pub mod Sections

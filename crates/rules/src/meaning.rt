@@ -1,4 +1,5 @@
 ghost use Rattle.std.specs.Prelude.{◌≡◌, take, drop};
+ghost use Rattle.rules.specs.Places.{clipped};
 
 // A part of a line: `len` bytes from `at`.
 #[derive(Clone, Copy, Debug, PartialEq, Eq)]
@@ -8,12 +9,23 @@ pub struct Place {
 }
 
 impl Place {
+    // As much of the place as there is in so many bytes.
+    pub fn within(self, len: usize) -> Place
+        ensures { result ≡ clipped self len }
+    {
+        let at = self.at.min(len);
+        Place {
+            at,
+            len: self.len.min(len - at),
+        }
+    }
+
     // The bytes at the place, as far as `bytes` has them.
     pub fn of(self, bytes: &[u8]) -> &[u8]
         ensures { result.now ≡ take self.len (drop self.at bytes.now) }
     {
-        let rest = &bytes[self.at.min(bytes.len())..];
-        &rest[..self.len.min(rest.len())]
+        let Place { at, len } = self.within(bytes.len());
+        &bytes[at..at + len]
     }
 }
 

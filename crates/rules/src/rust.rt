@@ -34,11 +34,8 @@ fn title(line: &[u8]) -> Option<Place>
     ensures { result ≡ then_some (heads_rust line.now) (rust_title line.now) }
 {
     let len = run_from::<TitleByte>(line, 2);
-    if line.starts_with(b"# ") && 0 < len && is_blank_from(line, 2 + len) {
-        Some(title_in(&line[2..2 + len]))
-    } else {
-        None
-    }
+    let heads = line.starts_with(b"# ") && 0 < len && is_blank_from(line, 2 + len);
+    heads.then(|| title_in(&line[2..2 + len]))
 }
 
 // `# Args`, and nothing behind it.
@@ -80,11 +77,8 @@ fn name(line: &[u8]) -> Option<Place>
 {
     let at = if line.starts_with(b"* ") { 3 } else { 1 };
     let len = run_from::<Word>(line, at);
-    if stands_at(line, at - 1, b'`') && 0 < len && stands_at(line, at + len, b'`') {
-        Some(Place { at, len })
-    } else {
-        None
-    }
+    let enters = stands_at(line, at - 1, b'`') && 0 < len && stands_at(line, at + len, b'`');
+    enters.then_some(Place { at, len })
 }
 
 // * `name`: text, where bullet and colon may be left out.

@@ -17,15 +17,11 @@ fn title(line: &[u8]) -> Option<Place>
     ensures { result ≡ then_some (heads_starlark line.now) (starlark_title line.now) }
 {
     let len = run_from::<TitleByte>(line, 0);
-    if 0 < len
+    let heads = 0 < len
         && !stands_at(line, 0, b' ')
         && stands_at(line, len, b':')
-        && is_blank_from(line, len + 1)
-    {
-        Some(Place { at: 0, len })
-    } else {
-        None
-    }
+        && is_blank_from(line, len + 1);
+    heads.then_some(Place { at: 0, len })
 }
 
 // `Args:`, and nothing behind it.
@@ -66,11 +62,8 @@ fn name(line: &[u8]) -> Option<Place>
 {
     let at = run_from::<Only<b'*'>>(line, 0);
     let len = run_from::<Word>(line, at);
-    if at <= 2 && 0 < len && stands_at(line, at + len, b':') {
-        Some(Place { at, len })
-    } else {
-        None
-    }
+    let enters = at <= 2 && 0 < len && stands_at(line, at + len, b':');
+    enters.then_some(Place { at, len })
 }
 
 // `name: text`, with up to two stars before it.

@@ -62,7 +62,7 @@ impl ByteClass for Word {
     ghost member = { word };
 
     fn has(b: u8) -> bool {
-        matches!(b, b'a'..=b'z' | b'A'..=b'Z' | b'0'..=b'9' | b'_')
+        b.is_ascii_alphanumeric() || b == b'_'
     }
 }
 

@@ -3,7 +3,6 @@ ghost use Rattle.text.specs.Escapes.{escaped, escape_of};
 
 use std::alloc::{AllocError, Global};
 use std::fmt;
-use std::fmt::Write;
 
 // A byte, which prints as printable ASCII.
 #[derive(Clone, Copy)]
@@ -23,13 +22,24 @@ impl fmt::Display for Shown {
     }
 }
 
+// Bytes, which print as printable ASCII on one line.
+#[derive(Clone, Copy)]
+pub struct Escaped<'a>(pub &'a [u8]);
+
+impl fmt::Display for Escaped<'_> {
+    ghost output = { λ e. Some (escaped e.0.now) };
+
+    fn fmt<W: fmt::Write>(&self, f: &mut fmt::Formatter<W>) -> fmt::Result {
+        for b in self.0 {
+            f.write(Shown(*b))?;
+        }
+        Ok(())
+    }
+}
+
 // Any bytes as printable ASCII on one line.
 pub fn escape(heap: Global, text: &[u8]) -> Result<Vec<u8>, AllocError>
     ensures { IfOk result (λ v. v.items ≡ escaped text.now) }
 {
-    let mut shown = String::new(heap);
-    for b in text {
-        write!(shown, "{}", Shown(*b))?;
-    }
-    Ok(shown.into_bytes())
+    Ok(format!(in heap; "{}", Escaped(text))?.into_bytes())
 }

@@ -2,7 +2,7 @@ use Rattle.std.proofs.Common.{◌≡◌, ◌+◌, vec_items, rules}
 use Rattle.std.proofs.lemmas.Result.{err_from_is_err_and}
 use Rattle.replay.specs.Sayings.{said_of}
 use Rattle.replay.specs.Scripts.{on_line}
-use Rattle.replay.proofs.Scripts.{calls_all, calls_next, calls_push, heard}
+use Rattle.replay.proofs.Scripts.{calls_next, calls_push, heard}
 use Rattle.replay.proofs.script.read_calls.Goals as goal
 
 pub returns-in_err-call : goal.returns-in_err-call
@@ -30,6 +30,3 @@ loop-k-preserved c =
     let so = calls_next c.args.lines.now c.args.from c.loop-k.k (vec_items c.loop-k.calls) c.loop-k.room c.loop-k-test.true c.loop-k.invariant in
     calls_push c.args.lines.now c.args.from c.loop-k.k (vec_items c.loop-k.calls) _ c.in_ok-call.call c.in_ok-push.ensures.items
     (rw (said, c.in_ok-call.was, ← c.room_with.ensures, ← y, c.in_ok-room.was) at so)
-
-pub returns : goal.returns
-returns c = calls_all c.args.lines.now c.args.from c.loop-k.k (vec_items c.loop-k.calls) _ c.loop-k-test.false c.requires c.loop-k.invariant

@@ -3,7 +3,7 @@ use Rattle.std.specs.Str.{bytes_eq}
 use Rattle.std.proofs.lemmas.Result.{err_from_is_err_and}
 use Rattle.text.specs.Lines.{texts}
 use Rattle.replay.specs.Scripts.{on_line}
-use Rattle.replay.proofs.Scripts.{heard, line, names_next, names_none, names_push}
+use Rattle.replay.proofs.Scripts.{heard, line, names_next, names_push}
 use Rattle.replay.proofs.script.read_names.Goals as goal
 
 pub returns-then-eq-clause-read : goal.returns-then-eq-clause-read
@@ -28,6 +28,3 @@ loop-k-preserved c =
     let said = heard (λ n. n.now) (c.args.from + c.loop-k.k) c.name_of.result _ c.name_of.ensures x in
     let so = names_next c.args.lines.now c.args.from c.loop-k.k _ (texts (vec_items c.loop-k.names)) c.loop-k-test.true c.loop-k.invariant in
     names_push c.args.lines.now c.args.from c.loop-k.k _ (vec_items c.loop-k.names) c.in_ok-name.name c.in_ok-push.ensures.items (rw (← is, said, c.in_ok-name.was) at so)
-
-pub returns-clause-read : goal.returns-clause-read
-returns-clause-read c = rw (c.into.ensures, c.at.ensures) (names_none c.args.lines.now c.args.from c.loop-k.k _ c.loop-k-test.false c.requires c.loop-k.invariant)

@@ -2,7 +2,7 @@ use Rattle.std.proofs.Common.{sym, ap, ◌∙◌}
 use Rattle.refusal.specs.declared.Refusal.TheVariants.{BadLine}
 use Rattle.reader.specs.Setups.{setup_of}
 use Rattle.reader.specs.Steps.{refuses, unless_bad}
-use Rattle.reader.proofs.Stepping.{closed_first, then_read, too_short, used_torn}
+use Rattle.reader.proofs.Stepping.{closed_first, then_read, too_short}
 use Rattle.reader.proofs.reader.Reader.line.Goals as goal
 
 pub returns-then-is_closed-clause-did : goal.returns-then-is_closed-clause-did
@@ -14,11 +14,6 @@ pub returns-then-is_short-clause-did : goal.returns-then-is_short-clause-did
 returns-then-is_short-clause-did g c =
     let r = c.args.self.now in
     sym (too_short (setup_of r.terms g.R.LineRule) c.args.line.now r.state c.args.shelf.now (sym c.if-is_closed.ensures) (sym c.if-is_short.ensures))
-
-pub invariant_of-self-clause-within : goal.invariant_of-self-clause-within
-invariant_of-self-clause-within g c k =
-    let r = c.args.self.now in
-    rw c.lose.ensures (used_torn r.state.course r.state.kept r.terms.share r.within k)
 
 pub returns-in-Some-clause-did : goal.returns-in-Some-clause-did
 returns-in-Some-clause-did g c =
