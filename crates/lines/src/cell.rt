@@ -79,10 +79,15 @@ impl fmt::Display for Finding {
     }
 }
 
-// What a rule makes of a line, in a few words.
+// How many bytes a column takes.
+pub const COLUMN: usize = 20;
+
+// What a rule makes of a line, in a few words, with room for the spaces that fill its column.
 pub fn cell<R: LineRule>(heap: Global, rule: &R, line: &[u8]) -> Result<Vec<u8>, AllocError>
     ensures { IfOk result (λ v. v.items ≡ cell_of R.NAMES_LOWERED line.now (reading_of (fault_of line.now) (R.LineRule.meaning line.now))) }
 {
     let finding = Finding::of(heap, rule, line)?;
-    Ok(finding.to_string(heap)?.into_bytes())
+    let mut cell = String::with_capacity(heap, COLUMN)?;
+    write!(cell, "{finding}")?;
+    Ok(cell.into_bytes())
 }

@@ -1,7 +1,7 @@
 ghost use Rattle.std.specs.Prelude.{◌≡◌, IfOk};
 ghost use Rattle.lines.specs.Rows.{barred, column_of, padded, row_of, table_of};
 
-use crate::cell::cell;
+use crate::cell::{COLUMN, cell};
 use rules::rule::LineRule;
 use rules::rust::{RustEntry, RustSection};
 use rules::starlark::{StarlarkEntry, StarlarkSection};
@@ -21,14 +21,17 @@ fn padded(mut cell: Vec<u8>, width: usize) -> Result<Vec<u8>, AllocError>
 fn column<R: LineRule>(heap: Global, rule: &R, line: &[u8]) -> Result<Vec<u8>, AllocError>
     ensures { IfOk result (λ v. v.items ≡ column_of R.NAMES_LOWERED R.LineRule.meaning line.now) }
 {
-    padded(cell(heap, rule, line)?, 20)
+    padded(cell(heap, rule, line)?, COLUMN)
 }
 
 // The line between bars, so that the blanks at its ends are seen.
 fn barred(heap: Global, line: &[u8]) -> Result<Vec<u8>, AllocError>
     ensures { IfOk result (λ v. v.items ≡ barred line.now) }
 {
-    Ok(format!(in heap; "|{}|\n", Escaped(line))?.into_bytes())
+    // Most lines print as themselves, between two bars and an LF.
+    let mut barred = String::with_capacity(heap, line.len() + 3)?;
+    writeln!(barred, "|{}|", Escaped(line))?;
+    Ok(barred.into_bytes())
 }
 
 // A line's number, what each rule makes of it, and the line.

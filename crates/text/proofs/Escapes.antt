@@ -1,15 +1,30 @@
--- What a byte with no shown form of its own prints as.
-use Rattle.std.proofs.Common.{◌≡◌, ℕ, ◌<◌, ◌≤◌, ◌-◌, ◌^◌, false, [], ◌∷◌, arith, inl, inr}
-use Rattle.std.proofs.lemmas.Bool.{cases_lt, le-leb, lt-leb, ne_eqb}
-use Rattle.std.proofs.lemmas.Fmt.{hex_byte}
-use Rattle.std.specs.Fmt.{digits, padded_integral, format_spec}
-use Rattle.text.specs.Bytes.{within}
-use Rattle.text.specs.Escapes.{escape_of}
+-- What bytes print as, one by one.
+use Rattle.std.proofs.Common.{◌≡◌, ℕ, ◌+◌, ◌<◌, ◌/◌, ◌%◌, List, [], ◌∷◌, ◌++◌, suc, length, get_or, take, sym, ap, ◌∙◌, arith}
+use Rattle.std.specs.Str.{IsAscii}
+use Rattle.std.specs.List.{All}
+use Rattle.std.proofs.lemmas.Grind.{common_steps}
+use Rattle.std.proofs.lemmas.Str.{IsAscii-append}
+use Rattle.std.proofs.lemmas.Str.Ascii.{IsAscii-nil, IsAscii-from_all}
+use Rattle.std.proofs.lemmas.List.{flat_map_more, take_more}
+use Rattle.text.specs.Escapes.{escaped, escape_of, hex_digit}
 
--- its two hex digits
-pub hex_shown : (b : ℕ) → b < 256 → (32 ≤ b → 127 ≤ b) → (b ≡ 10 → ⊥) → (b ≡ 9 → ⊥) →
-    92 ∷ 120 ∷ padded_integral (format_spec 32 0 4 2 (2 ^ 64 - 1)) false [] (digits 16 false b) ≡ escape_of b
-hex_shown b small far feed tab =
-    let other : within 32 126 b ≡ false =
-    elim (cases_lt b 32) [ inl low ↦ rw (lt-leb 32 b low) | inr high ↦ rw (le-leb 32 b high, lt-leb b 126 (far high)) ] in
-    rw (hex_byte false b small, ne_eqb b 92 (λ e. omega arith), ne_eqb b 10 feed, ne_eqb b 9 tab, other)
+-- one byte more, escaped
+pub escaped_more : (text : List ℕ) (i : ℕ) → i < length text → escaped (take i text) ++ escape_of (get_or text i 0) ≡ escaped (take (i + 1) text)
+escaped_more text i more = flat_map_more escape_of [] (take i text) (get_or text i 0) ∙ ap escaped (sym (take_more text i 0 more))
+
+-- a hexadecimal digit is ASCII
+digit_ascii : (n : ℕ) → n < 16 → hex_digit n < 128
+digit_ascii n small = grind (arith, common_steps)
+
+-- what a byte prints as is ASCII
+escape_ascii : (b : ℕ) → b < 256 → All (λ c. c < 128) (escape_of b)
+escape_ascii b small =
+    let high = digit_ascii (b / 16) (omega arith) in
+    let low = digit_ascii (b % 16) (omega arith) in
+    grind (arith, common_steps)
+
+-- what bytes print as is ASCII
+pub escaped_ascii : (text : List ℕ) → ((i : ℕ) → get_or text i 0 < 256) → IsAscii (escaped text)
+escaped_ascii [] small = IsAscii-nil
+escaped_ascii (b ∷ text) small =
+    IsAscii-append (escape_of b) (escaped text) (IsAscii-from_all (escape_of b) (escape_ascii b (small 0))) (escaped_ascii text (λ i. small (suc i)))

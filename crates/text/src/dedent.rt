@@ -88,7 +88,7 @@ pub fn dedent(heap: Global, text: &[u8]) -> Result<Vec<u8>, AllocError>
     ensures settles { IfOk result (λ v. dedented v.items ≡ v.items) }
 {
     let width = margin_width(text);
-    let mut out = Vec::new(heap);
+    let mut out = Vec::with_capacity(heap, text.len() + 1)?;
     for line in lines(text) {
         out.extend_from_slice(outdent(line, width))?;
         out.push(b'\n')?;

@@ -4,12 +4,22 @@ ghost use Rattle.text.specs.Bytes.{except};
 
 use crate::bytes::{ByteClass, Except};
 
-// How many bytes of the class stand in `text` from `from` on, before any other.
+// How many bytes of the class `text` begins with.
+fn leading<C: ByteClass>(text: &[u8]) -> usize
+    ensures count { result ≡ prefix_len C.member text.now }
+    ensures within { result ≤ length text.now }
+{
+    text.iter().take_while(|b| C::has(**b)).count()
+}
+
+// How many bytes of the class stand in `text` from `from` on, before any other. From a part of the text: `skip` would
+// go over all that stands before it.
+#[tactic(auto, using(std::proofs::lemmas::List::drop_min))]
 pub fn run_from<C: ByteClass>(text: &[u8], from: usize) -> usize
     ensures count { result ≡ prefix_len C.member (drop from text.now) }
     ensures within { result ≤ length text.now - from }
 {
-    text.iter().skip(from).take_while(|b| C::has(**b)).count()
+    leading::<C>(&text[from.min(text.len())..])
 }
 
 // How many bytes of the class `text` ends with.
