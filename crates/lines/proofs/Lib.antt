@@ -1,3 +1,2 @@
 mod Ascii
 mod Counts
-mod Joins

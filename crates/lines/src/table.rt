@@ -34,19 +34,22 @@ fn barred(heap: Global, line: &[u8]) -> Result<Vec<u8>, AllocError>
     Ok(barred.into_bytes())
 }
 
+// How many bytes a line's number takes.
+const NUMBER: usize = 6;
+
 // A line's number, what each rule makes of it, and the line.
 pub fn row(heap: Global, number: usize, line: &[u8]) -> Result<Vec<u8>, AllocError>
     ensures { IfOk result (λ v. v.items ≡ row_of number line.now) }
 {
-    let cells = [
-        padded(format!(in heap; "{number}")?.into_bytes(), 6)?,
-        column(heap, &StarlarkSection, line)?,
-        column(heap, &StarlarkEntry, line)?,
-        column(heap, &RustSection, line)?,
-        column(heap, &RustEntry, line)?,
-        barred(heap, line)?,
-    ];
-    cells.concat(heap)
+    // Room for the cells and for a line that prints as itself: `concat` would grow the row part by part.
+    let mut row = Vec::with_capacity(heap, NUMBER + 4 * COLUMN + line.len() + 3)?;
+    row.extend_from_slice(&padded(format!(in heap; "{number}")?.into_bytes(), NUMBER)?)?;
+    row.extend_from_slice(&column(heap, &StarlarkSection, line)?)?;
+    row.extend_from_slice(&column(heap, &StarlarkEntry, line)?)?;
+    row.extend_from_slice(&column(heap, &RustSection, line)?)?;
+    row.extend_from_slice(&column(heap, &RustEntry, line)?)?;
+    row.extend_from_slice(&barred(heap, line)?)?;
+    Ok(row)
 }
 
 const HEAD: &[u8] =
