@@ -1,9 +1,11 @@
 -- Lines written behind one another into the front of a buffer.
-use Rattle.std.proofs.Common.{◌≡◌, ℕ, ◌+◌, ◌-◌, ◌<◌, ◌≤◌, cond, List, [], ◌∷◌, ◌++◌, map, length, get_or, take, drop, set, Some, None, sym, ap, ◌∙◌, arith}
+use Rattle.std.proofs.Common.{◌≡◌, ℕ, ◌+◌, ◌-◌, ◌<◌, ◌≤◌, cond, ltb, List, [], ◌∷◌, ◌++◌, map, length, get_or, take, drop, set, Some, None, Option, sym, ap, ◌∙◌, arith}
 use borrow.Rule.Slice.PartMut.{put_mid}
-use Rattle.std.proofs.lemmas.List.{append_assoc, drop_at, drop-drop, drop_more, length-append, length-drop, length_push, length-take-le, set_at, take_at}
-use Rattle.std.proofs.lemmas.Bool.{cond_below}
-use Rattle.text.specs.Lines.{fed, has_room, put, unlines}
+use Rattle.std.proofs.lemmas.List.{append_assoc, drop_at, drop-drop, drop_more, length-append, length-drop, length_push, length-take-le, set_at, take_at, take-take}
+use Rattle.std.proofs.lemmas.Bool.{cond-true, cond_below, lt-ltb}
+use Rattle.text.specs.Dedents.{dedented, margin_of}
+use Rattle.text.specs.Lines.{fed, has_room, lines_of, put, unlines}
+use Rattle.text.proofs.Margins.{outdented_fits}
 
 -- a line copied to the place `at`, and a line feed behind it
 pub line_put : (out line part : List ℕ) (at : ℕ) → part ≡ line → at + length line < length out →
@@ -83,3 +85,21 @@ module _ {start whole out left : List ℕ} {at : ℕ} (so_far : Written start wh
         within = omega (arith, line_fits);
         room = (let r = so_far.room in omega arith);
       }
+
+-- a buffer with a byte more than the text has room for it, dedented; cut to the length given it is that text
+pub dedented_kept : (text start out more kept : List ℕ) (wide n : ℕ) (given : Option ℕ) → wide ≡ length text + 1 → length start ≡ wide →
+    given ≡ cond (ltb (length text) (length start)) (Some (length (dedented text))) None → given ≡ Some n →
+    out ≡ cond (ltb (length text) (length start)) (dedented text ++ drop (length (dedented text)) start) start →
+    kept ≡ take n (take wide (out ++ more)) → kept ≡ dedented text
+dedented_kept text start out more kept wide n given is long value got written e =
+    let whole = dedented text in
+    let rest = drop (length whole) start in
+    let room = lt-ltb (length text) (length start) (omega arith) in
+    let some = cond-true (ltb (length text) (length start)) (Some (length whole)) None room in
+    let here = cond-true (ltb (length text) (length start)) (whole ++ rest) start room in
+    let same : n ≡ length whole = cc in
+    let fits : n ≤ wide = omega (arith, outdented_fits (length (margin_of (lines_of text))) text) in
+    let cut = take-take n wide (out ++ more) fits in
+    let join = append_assoc whole rest more in
+    let front = take_at whole (rest ++ more) n (sym same) in
+    cc

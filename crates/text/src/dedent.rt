@@ -87,11 +87,8 @@ pub fn dedent(heap: Global, text: &[u8]) -> Result<Vec<u8>, AllocError>
     ensures lines { IfOk result (λ v. Dedents (lines_of text.now) (lines_of v.items)) }
     ensures settles { IfOk result (λ v. dedented v.items ≡ v.items) }
 {
-    let width = margin_width(text);
-    let mut out = Vec::with_capacity(heap, text.len() + 1)?;
-    for line in lines(text) {
-        out.extend_from_slice(outdent(line, width))?;
-        out.push(b'\n')?;
-    }
+    let mut out = vec![in heap; 0; text.len() + 1]?;
+    let len = dedent_into(text, &mut out).unwrap();
+    out.truncate(len);
     Ok(out)
 }
